@@ -1,0 +1,3 @@
+// Theorems over the definitions of `model`: specs/ holds them.
+
+pub fn nothing() {}

@@ -1,0 +1,13 @@
+-- Facts that speak of no hall: folds over a count, searches, regions of a list, tables, graphs with their walks and least costs, and walks over a floor against paths through portals.
+pub mod Fold
+pub mod Choice
+pub mod Search
+pub mod Ladder
+pub mod Region
+pub mod Table
+pub mod Graph
+pub mod LeastCosts
+pub mod FirstPath
+pub mod Keys
+pub mod Floor
+pub mod Detour

@@ -1,0 +1,31 @@
+-- The word that opens every definition: a theorem under `unfolding computing` is proved by computation.
+use lib.Ieee.{mul, div, lt, le, ofBits}
+use Rattle.laws.specs.Fold.{run, bit}
+use Rattle.laws.specs.Search.{first, any, passing}
+use Rattle.laws.specs.Ladder.{refuse}
+use Rattle.laws.specs.Region.{region, within}
+use Rattle.laws.specs.Table.{tabulate}
+use Rattle.laws.specs.LeastCosts.{offers, relaxed, swept, total, sweeps, outset, least-costs}
+use Rattle.laws.specs.FirstPath.{tight, better, closer, next, path}
+use Rattle.laws.specs.Choice.{beat, winner, each, pairs}
+use Rattle.model.specs.Cells.{beside}
+use Rattle.model.specs.Costs.{openAt}
+use Rattle.model.specs.Sectors.{across, down, beyond, hasBeyond}
+use Rattle.model.specs.Steps.{flatSteps}
+use Rattle.model.specs.Directions.{landing, onFloor}
+use Rattle.model.specs.Measuring.{cutDown, roundUp}
+use Rattle.model.specs.Scaling.{isWall, passes, blockStep, blockPassed, walk, scaleCell, scaleSector, scaleFloor}
+use Rattle.model.specs.Moves.{move, moves, movesTo, joined}
+use Rattle.model.specs.Windows.{borderCells, openPlace, bits, markOf, marksOf, isOpen, begins, begun, windowCount, firstPlace, lastPlace, crossing, windowAt, sideWindows}
+use Rattle.model.specs.Portals.{isPortal, midpoint, midCell, facing, headOf, outerEdge, innerEdge, edgeAt, edgesFrom, edgesOf, edges, portalGraph}
+use Rattle.model.specs.Change.{nearby, isThere, forNearby, resetSector, rescaled, isNearby, remarked, changed, exceedsAt, exceeds}
+use Rattle.model.specs.LeastPath.{nodeRank, keysTo, leastPath}
+use Rattle.model.specs.Route.{starts, ends, endOf, linkedPair, runOf, chosenPair, stepAt, stepsOf, throughPair, throughPortals, oneStep, routeOf}
+use Rattle.model.specs.Account.{fed, accountAfter, accountCosts, crossings}
+use Rattle.model.specs.Store.{u16At, marksIn, decode, markBytes, encode, written, putEntry, baseIn}
+use Rattle.model.specs.Calls.{badSectors, badScale, orElse, ifAccepted, measured, valueNumber, hallNumber, planNumber, planAnswer, entryOff, readNumber, readAnswer, readInto, buildNumber, built, buildInto, badMark, checkNumber, alterNumber, changeNumber, changeInto, stepList, foundNumber, routeNumber, routed, routeAnswer, routeSteps, routeFlat, windowsFrom, flatWindows, windowsNumber, listed, windowsAnswer, windowsFlat, storeAfterCall, storeAfter}
+use Rattle.model.specs.Listing.{digits, windowText, stepText, stepsText, answerText, pairText, pairLines, fileSize, hallLines, fileLines, hallroute}
+
+unfoldable pub computing : Unit {0}
+unfolding mul div lt le ofBits run bit first any passing refuse region within tabulate offers relaxed swept total sweeps outset least-costs tight better closer next path beat winner each pairs beside openAt across down beyond hasBeyond flatSteps landing onFloor cutDown roundUp isWall passes blockStep blockPassed walk scaleCell scaleSector scaleFloor move moves movesTo joined borderCells openPlace bits markOf marksOf isOpen begins begun windowCount firstPlace lastPlace crossing windowAt sideWindows isPortal midpoint midCell facing headOf outerEdge innerEdge edgeAt edgesFrom edgesOf edges portalGraph nearby isThere forNearby resetSector rescaled isNearby remarked changed exceedsAt exceeds nodeRank keysTo leastPath starts ends endOf linkedPair runOf chosenPair stepAt stepsOf throughPair throughPortals oneStep routeOf fed accountAfter accountCosts crossings u16At marksIn decode markBytes encode written putEntry baseIn badSectors badScale orElse ifAccepted measured valueNumber hallNumber planNumber planAnswer entryOff readNumber readAnswer readInto buildNumber built buildInto badMark checkNumber alterNumber changeNumber changeInto stepList foundNumber routeNumber routed routeAnswer routeSteps routeFlat windowsFrom flatWindows windowsNumber listed windowsAnswer windowsFlat storeAfterCall storeAfter digits windowText stepText stepsText answerText pairText pairLines fileSize hallLines fileLines hallroute
+computing = tt

@@ -1,0 +1,58 @@
+-- 01, "Hall store and hall file": the bytes.
+use Prim.Native.Nat.{ℕ, _+_, _*_, _/_, _%_}
+use mathlib.Core.List.{List, [], _∷_, _++_}
+use lib.ListN.{getD, drop, set, replicate}
+use Rattle.laws.specs.Fold.{run}
+use Rattle.laws.specs.Region.{region}
+use Rattle.laws.specs.Table.{tabulate}
+use Rattle.model.specs.declared.Measures.{Measures}
+use Rattle.model.specs.Sectors.{sectors, cells}
+use Rattle.model.specs.Halls.{Hall}
+
+-- a u16, "low byte first"
+unfoldable pub u16At : List ℕ → ℕ → ℕ
+u16At bytes i = getD bytes i 0 + 256 * getD bytes (i + 1) 0
+
+-- "bytes columns, rows, scale", which open both a store and a file
+abbrev pub measuresAt : List ℕ → Measures
+measuresAt bytes = record { columns = getD bytes 0 0; rows = getD bytes 1 0; scale = getD bytes 2 0 }
+
+-- "Size 4 + 208 × sectors"
+abbrev pub sizeOf : Measures → ℕ
+sizeOf m = 4 + 208 * sectors m
+
+-- the hall in a store: "base costs and scaled costs, two parallel arrays by floor number; then per sector four u16 side marks N, E, S, W"
+unfoldable pub marksIn : Measures → List ℕ → List ℕ
+marksIn m st = tabulate (λ k. u16At st (4 + 2 * cells m + 2 * k)) (sectors m * 4) 0
+
+abbrev pub hallIn : Measures → List ℕ → Hall
+hallIn m st = record { measures = m; base = region 4 (cells m) st; scaled = region (4 + cells m) (cells m) st; marks = marksIn m st }
+
+unfoldable pub decode : List ℕ → Hall
+decode st = hallIn (measuresAt st) st
+
+-- and the store of a hall
+unfoldable pub markBytes : List ℕ → List ℕ
+markBytes [] = []
+markBytes (mark ∷ marks) = mark % 256 ∷ mark / 256 ∷ markBytes marks
+
+unfoldable pub encode : Hall → List ℕ
+encode h = (h .measures .columns ∷ h .measures .rows ∷ h .measures .scale ∷ 0 ∷ []) ++ (h .base ++ (h .scaled ++ markBytes (h .marks)))
+
+-- a hall written into a store: "Bytes past the size stay"
+unfoldable pub written : Hall → List ℕ → List ℕ
+written h st = encode h ++ drop (sizeOf (h .measures)) st
+
+-- the file: "bytes columns, rows, scale; u16 count; then two parallel arrays, u16 floor numbers and byte costs"
+abbrev pub entryCount : List ℕ → ℕ
+entryCount file = u16At file 3
+
+abbrev pub entryNumber : List ℕ → ℕ → ℕ
+entryNumber file k = u16At file (5 + 2 * k)
+
+unfoldable pub putEntry : List ℕ → ℕ → ℕ → List ℕ → List ℕ
+putEntry file count k xs = set xs (entryNumber file k) (getD file (5 + 2 * count + k) 0)
+
+-- "Unnamed cells cost 1; the later of two entries holds"
+unfoldable pub baseIn : List ℕ → ℕ → List ℕ
+baseIn file size = run (putEntry file (entryCount file)) (entryCount file) (replicate size 1)
