@@ -75,57 +75,53 @@ pub record Leads {A : Type 0} (w : A → ℕ) (z : A) (xs : List A) : Type 0 whe
   pub more : (x : A) → In x before → w z < w x
   pub least : (x : A) → In x after → w z ≤ w x
 
-module _ {A : Type 0} (w : A → ℕ) where
-  leads-now : {x z : A} {xs : List A} → z ≡ x → ((a : A) → In a xs → w z ≤ w a) → Leads w z (x ∷ xs)
-  leads-now {xs = xs} e low = record { before = []; after = xs; split = rw e; more = λ a i. absurd (in-empty i); least = low }
+-- y stays ahead of xs, or loses to a member z
+data Won {A : Type 0} (w : A → ℕ) (y z : A) (xs : List A) : Type 0 where
+  stays : z ≡ y → ((a : A) → In a xs → w z ≤ w a) → Won w y z xs
+  loses : w z < w y → Leads w z xs → Won w y z xs
 
-  leads-later : {x z : A} {xs : List A} → w z < w x → Leads w z xs → Leads w z (x ∷ xs)
-  leads-later {x} {z} l h = record {
-    before = x ∷ h .before;
+module _ {A : Type 0} (w : A → ℕ) where
+  won-low : {y z : A} {xs : List A} → Won w y z xs → w z ≤ w y
+  won-low (stays e low) = omega (arith, ap w e)
+  won-low (loses l h) = omega arith
+
+  won-leads : {y z : A} {xs : List A} → Won w y z xs → Leads w z (y ∷ xs)
+  won-leads {xs = xs} (stays e low) = record { before = []; after = xs; split = rw e; more = λ a i. absurd (in-empty i); least = low }
+  won-leads {y} {z} (loses l h) = record {
+    before = y ∷ h .before;
     after = h .after;
-    split = ap (λ ys. x ∷ ys) (h .split);
+    split = ap (λ ys. y ∷ ys) (h .split);
     more = λ a i. in-each (λ b. w z < w b) l (h .more) i;
     least = h .least;
   }
 
-  -- the winner of y and then xs
-  won : (xs : List A) (y z : A) → winner w (best y) xs ≡ best z → ((z ≡ y) × ((a : A) → In a xs → w z ≤ w a)) ⊎ ((w z < w y) × Leads w z xs)
+  won : (xs : List A) (y z : A) → winner w (best y) xs ≡ best z → Won w y z xs
   unfolding winner beat
-  won [] y z e = let same : z ≡ y = cc in inl (same, λ a i. absurd (in-empty i))
+  won [] y z e = let same : z ≡ y = cc in stays same (λ a i. absurd (in-empty i))
   won (x ∷ xs) y z e = go (ltb (w x) (w y)) refl e (λ v. won xs v z)
     where
-      go : (t : Bool) → ltb (w x) (w y) ≡ t → winner w (pick t (best x) (best y)) xs ≡ best z
-          → ((v : A) → winner w (best v) xs ≡ best z → ((z ≡ v) × ((a : A) → In a xs → w z ≤ w a)) ⊎ ((w z < w v) × Leads w z xs))
-          → ((z ≡ y) × ((a : A) → In a (x ∷ xs) → w z ≤ w a)) ⊎ ((w z < w y) × Leads w z (x ∷ xs))
-      go true t e rec = taken (rec x e)
-        where
-          taken : ((z ≡ x) × ((a : A) → In a xs → w z ≤ w a)) ⊎ ((w z < w x) × Leads w z xs) → ((z ≡ y) × ((a : A) → In a (x ∷ xs) → w z ≤ w a)) ⊎ ((w z < w y) × Leads w z (x ∷ xs))
-          taken (inl h) = inr (omega (arith, ltb-true (w x) (w y) t, ap w (h .0)), leads-now (h .0) (h .1))
-          taken (inr h) = inr (omega (arith, ltb-true (w x) (w y) t, h .0), leads-later (h .0) (h .1))
-      go false t e rec = kept (rec y e)
-        where
-          kept : ((z ≡ y) × ((a : A) → In a xs → w z ≤ w a)) ⊎ ((w z < w y) × Leads w z xs) → ((z ≡ y) × ((a : A) → In a (x ∷ xs) → w z ≤ w a)) ⊎ ((w z < w y) × Leads w z (x ∷ xs))
-          kept (inl h) = let l : w z ≤ w x = omega (arith, ltb-false (w x) (w y) t, ap w (h .0)) in inl (h .0, λ a i. in-each (λ b. w z ≤ w b) l (h .1) i)
-          kept (inr h) = let l : w z < w x = omega (arith, ltb-false (w x) (w y) t, h .0) in inr (h .0, leads-later l (h .1))
+      kept : w y ≤ w x → Won w y z xs → Won w y z (x ∷ xs)
+      kept l (stays q low) = let k : w z ≤ w x = omega (arith, ap w q) in stays q (λ a i. in-each (λ b. w z ≤ w b) k low i)
+      kept l (loses k h) = let m : w z < w x = omega arith in loses k (won-leads (loses m h))
+
+      go : (t : Bool) → ltb (w x) (w y) ≡ t → winner w (pick t (best x) (best y)) xs ≡ best z → ((v : A) → winner w (best v) xs ≡ best z → Won w v z xs) → Won w y z (x ∷ xs)
+      go true t e rec = let h = rec x e in loses (omega (arith, won-low h, ltb-true (w x) (w y) t)) (won-leads h)
+      go false t e rec = kept (ltb-false (w x) (w y) t) (rec y e)
 
   -- the earlier of equals wins
-  pub winner-first : (xs : List A) {z : A} → winner w nothing xs ≡ best z → Leads w z xs
+  pub winner-first : {xs : List A} {z : A} → winner w nothing xs ≡ best z → Leads w z xs
   unfolding winner beat
-  winner-first [] e = let no : _≡_ {A = ℕ} 0 1 = cc in absurd (omega arith)
-  winner-first (x ∷ xs) {z} e = go (won xs x z e)
-    where
-      go : ((z ≡ x) × ((a : A) → In a xs → w z ≤ w a)) ⊎ ((w z < w x) × Leads w z xs) → Leads w z (x ∷ xs)
-      go (inl h) = leads-now (h .0) (h .1)
-      go (inr h) = leads-later (h .0) (h .1)
+  winner-first {xs = []} e = let z : _≡_ {A = ℕ} 0 1 = cc in absurd (omega arith)
+  winner-first {xs = x ∷ xs} {z = z} e = won-leads (won xs x z e)
 
-  pub winner-in : (xs : List A) {z : A} → winner w nothing xs ≡ best z → In z xs
-  winner-in xs {z} e = let h = winner-first xs e in rw (h .split) (in-right (h .before) here)
+  pub winner-in : {xs : List A} {z : A} → winner w nothing xs ≡ best z → In z xs
+  winner-in e = let h = winner-first e in rw (h .split) (in-right (h .before) here)
 
   pub winner-least : {xs : List A} {x z : A} → winner w nothing xs ≡ best z → In x xs → w z ≤ w x
   winner-least {xs} {x} {z} e i = go (in-either (h .before) (z ∷ h .after) (rw (h .split) at i))
     where
       h : Leads w z xs
-      h = winner-first xs e
+      h = winner-first e
 
       go : In x (h .before) ⊎ In x (z ∷ h .after) → w z ≤ w x
       go (inl j) = omega (arith, h .more x j)
@@ -146,8 +142,8 @@ module _ {A : Type 0} (w : A → ℕ) where
   unfolding winner beat
   winner-none [] = (λ _. refl, λ _. refl)
   winner-none (x ∷ xs) = (
-    λ e. let no : _≡_ {A = ℕ} 0 1 = cc (won-some xs x .1) in absurd (omega arith),
-    λ e. let no : _≡_ {A = ℕ} 0 1 = cc in absurd (omega arith),
+    λ e. let z : _≡_ {A = ℕ} 0 1 = cc (won-some xs x .1) in absurd (omega arith),
+    λ e. let z : _≡_ {A = ℕ} 0 1 = cc in absurd (omega arith),
   )
 
 -- ---- lists one after another

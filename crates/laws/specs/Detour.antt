@@ -180,11 +180,11 @@ walk-leaves {n = n} {k} apart w = go (ℕ-discrete k 0)
     go (no e) = omega arith
 
 -- ---- the pair that is chosen
--- `least x y` is the least n with R x y n, and `some x y` says whether there is one; both are looked at from the x of In
-pub record LeastOf (In : ℕ → Type 0) (R : ℕ → ℕ → ℕ → Type 0) (some : ℕ → ℕ → Bool) (least : ℕ → ℕ → ℕ) : Type 0 where
+-- `least x y` is the least n with R x y n, and `some x y` says whether there is one, for each x of From
+pub record LeastOf (From : ℕ → Type 0) (R : ℕ → ℕ → ℕ → Type 0) (some : ℕ → ℕ → Bool) (least : ℕ → ℕ → ℕ) : Type 0 where
   pub attained : (x y : ℕ) → some x y ≡ true → R x y (least x y)
-  pub found : (x y n : ℕ) → In x → R x y n → some x y ≡ true
-  pub lowest : (x y n : ℕ) → In x → R x y n → least x y ≤ n
+  pub found : (x y n : ℕ) → From x → R x y n → some x y ≡ true
+  pub lowest : (x y n : ℕ) → From x → R x y n → least x y ≤ n
 
 -- The numbers that a route is chosen by: the fewest moves inside a sector, and the least cost of a path.
 pub record Lengths {f : Floor} {D : ℕ} (g : Portals f D) : Type 0 where
@@ -279,7 +279,7 @@ pub chosen : {f : Floor} {D : ℕ} (g : Portals f D) (c : Lengths g) (x y : ℕ)
 chosen g c x y start end leg run cs are has = record {
   some = λ p e w. let z = winner-some run (has p e w .1) in (leg (z .0), run (z .0), record { one = z .0; wins = z .1; leg-is = refl; run-is = refl });
   is = λ l r w.
-      let h = are (w .one) (winner-in run cs (w .wins)) in
+      let h = are (w .one) (winner-in run (w .wins)) in
       (start (w .one), end (w .one), h .0, w .leg-is ∙ h .1, w .run-is ∙ h .2, λ q d v. let a = has q d v in omega (arith, winner-least run (w .wins) (a .1), a .2, w .run-is));
 }
 

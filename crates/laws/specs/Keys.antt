@@ -61,7 +61,7 @@ module _ {g : Graph} {cost : ℕ → ℕ} {top : ℕ} (k : Keyed g cost top) {s 
         omega (arith, arcs-few w same)
 
     -- such a way has fewer arcs than the graph has nodes, and the key is its cost and its arcs
-    pub key-split : {v a n : ℕ} → v < g .nodes → Way g cost s v a n → 4096 * a + n ≡ getD d v 0 → (getD d v 0 / 4096 ≡ a) × (getD d v 0 % 4096 ≡ n) × (n < g .nodes)
+    key-split : {v a n : ℕ} → v < g .nodes → Way g cost s v a n → 4096 * a + n ≡ getD d v 0 → (getD d v 0 / 4096 ≡ a) × (getD d v 0 % 4096 ≡ n) × (n < g .nodes)
     key-split {v} {a} {n} l w q =
         let low : n < g .nodes = omega (arith, arcs-few w q, count-room (under d (getD d v 0)) (g .nodes) v l (le-ltb (getD d v 0) (getD d v 0) (omega arith))) in
         (omega (arith, k .few), omega (arith, k .few), low)

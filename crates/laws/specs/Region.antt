@@ -17,6 +17,10 @@ region a n xs = take n (drop a xs)
 unfoldable pub within : ℕ → ℕ → (List ℕ → List ℕ) → List ℕ → List ℕ
 within a n f xs = take a xs ++ (f (region a n xs) ++ drop n (drop a xs))
 
+-- a list put in place of what stands from place a on
+unfoldable pub placed : ℕ → List ℕ → List ℕ → List ℕ
+placed a ys xs = within a (length ys) (λ old. ys) xs
+
 pub length-region : (a n : ℕ) (xs : List ℕ) → a + n ≤ length xs → length (region a n xs) ≡ n
 unfolding region
 length-region a n xs h = simp (length-take, length-drop) (omega arith)
@@ -101,11 +105,7 @@ pub set-within : (a n j : ℕ) (xs : List ℕ) (v : ℕ) → j < n → a + n ≤
 unfolding within region
 set-within a n j xs v h fits = sym (set-mid-at a n j xs v (simp (length-take, length-drop) (omega arith)))
 
--- A list put in place of what stands from place a on.
-unfoldable pub placed : ℕ → List ℕ → List ℕ → List ℕ
-placed a ys xs = within a (length ys) (λ old. ys) xs
-
--- A store that is written out as what lies before a region, the region and what lies after it.
+-- A list that is written out as what lies before a region, the region and what lies after it.
 pub within-at : (a n : ℕ) (f : List ℕ → List ℕ) (p q r : List ℕ) → length p ≡ a → length q ≡ n → within a n f (p ++ (q ++ r)) ≡ p ++ (f q ++ r)
 unfolding within region
 within-at a n f p q r ep eq = simp (take-at p (q ++ r) a ep, drop-at p (q ++ r) a ep, take-at q r n eq, drop-at q r n eq)
@@ -131,7 +131,7 @@ copy-more k s d hs hd = rw add-one (copy-suc k s d hs hd)
 pub copy-end : (k : ℕ) (s d : List ℕ) → length s ≤ k → length d ≡ length s → take k s ++ drop k d ≡ s
 copy-end k s d h e = rw (take-all k s h, drop-of-length-le d {i = k} (omega arith)) (append-nil s)
 
--- four bytes at the front
+-- four elements set at the front
 pub header-set : (c r k : ℕ) (xs : List ℕ) → 4 ≤ length xs → set (set (set (set xs 0 c) 1 r) 2 k) 3 0 ≡ (c ∷ r ∷ k ∷ 0 ∷ []) ++ drop 4 xs
 header-set c r k [] h = absurd (not-suc-le-zero h)
 header-set c r k (a ∷ []) h = absurd (not-suc-le-zero (le-of-suc-le-suc h))
@@ -139,7 +139,7 @@ header-set c r k (a ∷ b ∷ []) h = absurd (not-suc-le-zero (le-of-suc-le-suc 
 header-set c r k (a ∷ b ∷ e ∷ []) h = absurd (not-suc-le-zero (le-of-suc-le-suc (le-of-suc-le-suc (le-of-suc-le-suc h))))
 header-set c r k (a ∷ b ∷ e ∷ g ∷ xs) h = refl
 
--- A loop over a store whose body changes one region alone, by a step that may go by what `g` reads elsewhere in the store.
+-- A loop over a list whose body changes one region alone, by a step that may go by what `g` reads elsewhere in the list.
 -- Its invariant, and the laws for its needs. `apart`: a change of the region does not change what `g` reads.
 pub record RanIn (a n : ℕ) {B : Type 0} (g : List ℕ → B) (f : B → ℕ → List ℕ → List ℕ) (m i : ℕ) (s t : List ℕ) : Type 0 where
   pub ran : Ran (λ k. within a n (f (g s) k)) m i s t
