@@ -2,7 +2,7 @@
 use mathlib.Core.Path.{_≡_, refl, ap}
 use mathlib.Core.Logic.{_⊎_, inl, inr, _↔_}
 use mathlib.Core.Bool.{Bool, true, false}
-use mathlib.Core.List.{List, [], _∷_, _++_}
+use mathlib.Core.List.{List, [], _∷_, _++_, map}
 use Prim.Native.Nat.{ℕ, _≤_, _<_}
 use native.Mathlib.Omega.{arith}
 use lib.Dec.{ltb}
@@ -172,3 +172,16 @@ module _ {A B C : Type 0} (f : A → B → List C) where
       let a = each-is (λ x. each (f x) ys) xs i in
       let b = each-is (f (a .0)) ys (a .2) in
       (a .0, b .0, a .1, b .1, b .2)
+
+-- ---- lists mapped
+module _ {A B : Type 0} (f : A → B) where
+  pub map-has : {x : A} {xs : List A} → In x xs → In (f x) (map f xs)
+  map-has here = here
+  map-has (later i) = later (map-has i)
+
+  pub map-is : (xs : List A) {y : B} → In y (map f xs) → (x : A) × In x xs × (y ≡ f x)
+  map-is (x ∷ xs) {y} i = go (in-cons i) (λ j. map-is xs j)
+    where
+      go : (y ≡ f x) ⊎ In y (map f xs) → (In y (map f xs) → (z : A) × In z xs × (y ≡ f z)) → (z : A) × In z (x ∷ xs) × (y ≡ f z)
+      go (inl e) rec = (x, here, e)
+      go (inr j) rec = let h = rec j in (h .0, later (h .1), h .2)

@@ -51,7 +51,7 @@ outer-weight h p = when (hasBeyond (h .measures) (portalSector p) (portalSide p)
 inner-weight : (h : Hall) (from : List ℕ) (q : ℕ) → Weight (innerEdge h from q)
 unfolding innerEdge
 inner-weight h from q =
-    when (isPortal h q && ltb (getD from (midpoint h q) apart) apart) (getD from (midpoint h q) apart) (λ e. ltb-true (getD from (midpoint h q) apart) apart (both (isPortal h q) (ltb (getD from (midpoint h q) apart) apart) e .1))
+    when (isPortal h q && ltb (getD from (midpoint h q) 0) apart) (getD from (midpoint h q) 0) (λ e. ltb-true (getD from (midpoint h q) 0) apart (both (isPortal h q) (ltb (getD from (midpoint h q) 0) apart) e .1))
 
 edge-weight : (h : Hall) (p : ℕ) (from : List ℕ) (c : ℕ) → Weight (edgeAt h p from c)
 unfolding edgeAt
@@ -107,10 +107,10 @@ edge-portal h p from c = go (eqb c (p % 20))
     q : ℕ
     q = portalSector p * 20 + c
 
-    go : (t : Bool) → 0 < pick t (pick (hasBeyond (h .measures) (portalSector p) (portalSide p) && isPortal h (facing h p)) (key 1) 0) (pick (isPortal h q && ltb (getD from (midpoint h q) apart) apart) (key (getD from (midpoint h q) apart)) 0)
+    go : (t : Bool) → 0 < pick t (pick (hasBeyond (h .measures) (portalSector p) (portalSide p) && isPortal h (facing h p)) (key 1) 0) (pick (isPortal h q && ltb (getD from (midpoint h q) 0) apart) (key (getD from (midpoint h q) 0)) 0)
         → isPortal h (pick t (facing h p) q) ≡ true
     go true l = both (hasBeyond (h .measures) (portalSector p) (portalSide p)) (isPortal h (facing h p)) (picked (hasBeyond (h .measures) (portalSector p) (portalSide p) && isPortal h (facing h p)) (key 1) l) .1
-    go false l = both (isPortal h q) (ltb (getD from (midpoint h q) apart) apart) (picked (isPortal h q && ltb (getD from (midpoint h q) apart) apart) (key (getD from (midpoint h q) apart)) l) .0
+    go false l = both (isPortal h q) (ltb (getD from (midpoint h q) 0) apart) (picked (isPortal h q && ltb (getD from (midpoint h q) 0) apart) (key (getD from (midpoint h q) 0)) l) .0
 
 -- ---- cells of a border by their rank
 rank-low : (side : Side) (i : ℕ) → i < 10 → cellRank (borderCell side i) < 100
@@ -175,16 +175,16 @@ module _ (h : Hall) where
         low (an-edge w l) = omega arith
 
     -- ---- PortalNode order tells portals apart
-    -- first and last place of a portal's window
-    places : (p : ℕ) → isPortal h p ≡ true → Run (portalMark h p) (portalWindow p)
+    -- the places of a portal's window
+    pub portal-places : (p : ℕ) → isPortal h p ≡ true → Run (portalMark h p) (portalWindow p)
     unfolding isPortal
-    places p e = window-run (portalMark h p) (fits .marked (portalSector p) (portalSide p)) (portalWindow p) (ltb-true (portalWindow p) (windowCount (portalMark h p)) (both (ltb (portalSector p) (sectors (h .measures))) (ltb (portalWindow p) (windowCount (portalMark h p))) e .1))
+    portal-places p e = window-run (portalMark h p) (fits .marked (portalSector p) (portalSide p)) (portalWindow p) (ltb-true (portalWindow p) (windowCount (portalMark h p)) (both (ltb (portalSector p) (sectors (h .measures))) (ltb (portalWindow p) (windowCount (portalMark h p))) e .1))
 
     pub rank-apart : (p q : ℕ) → isPortal h p ≡ true → isPortal h q ≡ true → nodeRank h p ≡ nodeRank h q → p ≡ q
     unfolding nodeRank isPortal
     rank-apart p q ip iq e =
-        let run = places p ip in
-        let sun = places q iq in
+        let run = portal-places p ip in
+        let sun = portal-places q iq in
         let kp : sideNumber (portalSide p) ≡ p % 20 / 5 = number-side (p % 20 / 5) (omega arith) in
         let kq : sideNumber (portalSide q) ≡ q % 20 / 5 = number-side (q % 20 / 5) (omega arith) in
         let parts =

@@ -48,14 +48,14 @@ row-is m c r l = omega (arith, ap (λ (n : ℕ). n % m .rows) (sum c r), add-mul
     sum c r = omega arith
 
 -- a cell on the plain floor, by sector and index
-across-is : (m : Measures) (s i : ℕ) → i < 100 → across m (floorNumber s i) ≡ columnOf m s * 10 + i % 10
+pub across-is : (m : Measures) (s i : ℕ) → i < 100 → across m (floorNumber s i) ≡ columnOf m s * 10 + i % 10
 unfolding across
 across-is m s i l =
     let sector : (s * 100 + i) / 100 ≡ s = omega arith in
     let place : (s * 100 + i) % 100 ≡ i = omega arith in
     rw (sector, place)
 
-down-is : (m : Measures) (s i : ℕ) → i < 100 → down m (floorNumber s i) ≡ rowOf m s * 10 + i / 10
+pub down-is : (m : Measures) (s i : ℕ) → i < 100 → down m (floorNumber s i) ≡ rowOf m s * 10 + i / 10
 unfolding down
 down-is m s i l =
     let sector : (s * 100 + i) / 100 ≡ s = omega arith in

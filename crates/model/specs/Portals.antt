@@ -55,7 +55,7 @@ outerEdge h p = pick (hasBeyond (h .measures) (portalSector p) (portalSide p) &&
 
 -- "Two portals of a sector whose midpoints are joined inside it have an edge, weight the fewest moves": `from` holds the moves from one midpoint
 unfoldable pub innerEdge : Hall → List ℕ → ℕ → ℕ
-innerEdge h from q = pick (isPortal h q && ltb (getD from (midpoint h q) apart) apart) (key (getD from (midpoint h q) apart)) 0
+innerEdge h from q = pick (isPortal h q && ltb (getD from (midpoint h q) 0) apart) (key (getD from (midpoint h q) 0)) 0
 
 -- the 20 edges of a portal by place
 unfoldable pub edgeAt : Hall → ℕ → List ℕ → ℕ → ℕ

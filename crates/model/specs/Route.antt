@@ -39,7 +39,7 @@ pub record Pair : Type 0 where
   pub end : End
 
 unfoldable pub linkedPair : ℕ → End → List Pair
-linkedPair p e = pick (ltb (getD (e .keys) p unlinked) unlinked) (record { start = p; end = e } ∷ []) []
+linkedPair p e = pick (ltb (getD (e .keys) p 0) unlinked) (record { start = p; end = e } ∷ []) []
 
 -- "Run = portal path cost + moves from the end midpoint to the goal"
 unfoldable pub runOf : Pair → ℕ

@@ -1,0 +1,257 @@
+-- The route of a fresh hall keeps the promise of the detour: given exactly when a walk exists, a walk itself, and within the bound. And its steps fit into 1,001.
+use Prim.Native.Nat.{ℕ, zero, suc, _+_, _-_, _*_, _/_, _%_, _≤_, _<_}
+use native.Mathlib.Omega.{arith}
+use mathlib.Core.Path.{_≡_, refl, sym, ap, ap₂, _∙_}
+use mathlib.Core.Logic.{_⊎_, inl, inr, _↔_}
+use mathlib.Core.Bool.{Bool, true, false, _&&_, true≢false}
+use mathlib.Core.List.{List, [], _∷_, map}
+use lib.Dec.{ltb}
+use lib.ListN.{length, getD}
+use borrow.Author.Tests.{ltb-true, lt-ltb}
+use Rattle.laws.specs.Fold.{pick}
+use Rattle.laws.specs.Search.{both, passing, passing-is, passing-has}
+use Rattle.laws.specs.Graph.{Graph}
+use Rattle.laws.specs.Keys.{Journey, arrived, onward, Before, cheaper, shorter, earlier, few-edges}
+use Rattle.laws.specs.Choice.{In, here, in-cons, map-is, map-has, Best, nothing, best, winner, winner-in, pairs, pairs-is, pairs-has}
+use Rattle.laws.specs.Floor.{Floor, Inside}
+use Rattle.laws.specs.Detour.{Portals, Path, at, along, LeastOf, Lengths, Pair, leg-of, run-of, Chosen, Promise, promise, Winning, chosen}
+use Rattle.model.specs.declared.RouteStep.{RouteStep}
+use Rattle.model.specs.Sectors.{sectors, sectorOf}
+use Rattle.model.specs.Moves.{movesTo, joined}
+use Rattle.model.specs.MovesFewest.{Joined, joined-is}
+use Rattle.model.specs.Halls.{Hall}
+use Rattle.model.specs.Portals.{portalSector, isPortal, midCell, portalGraph}
+use Rattle.model.specs.LeastPath.{nodeRank, unlinked, keysTo, costOfKey, leastPath}
+use Rattle.model.specs.LeastPathFirst.{edgeCost, portal-keyed, keys-settled, head-portal, linked, least-path}
+use Rattle.model.specs.Route.{End, starts, ends, endOf, linkedPair, runOf, chosenPair, stepsOf, Found, route, none, throughPair, throughPortals, routeOf}
+use Rattle.model.specs.Route as choice
+use Rattle.audit.specs.Crossings.{floorOf}
+use Rattle.audit.specs.SectorMoves.{fewest, inside-joined}
+use Rattle.audit.specs.PortalEdges.{Arc, portal-on, mid-sector}
+use Rattle.audit.specs.Gates.{Fresh, fits, portals}
+
+-- ---- what a route call finds, taken apart
+same-found : {s t : List RouteStep} {a b c d : ℕ} → route s a b ≡ route t c d → (s ≡ t) × (a ≡ c) × (b ≡ d)
+same-found e = (cc, cc, cc)
+
+none-found : {s : List RouteStep} {a b : ℕ} → none ≡ route s a b → ⊥
+none-found e = let z : _≡_ {A = ℕ} 0 1 = cc in omega arith
+
+-- of a path of so many portals at most half are listed, and one more
+steps-few : (h : Hall) (goal : ℕ) (path : List ℕ) → (2 * length (stepsOf h goal true path) ≤ length path + 2) × (2 * length (stepsOf h goal false path) ≤ length path + 1)
+unfolding stepsOf
+steps-few h goal [] = (omega arith, omega arith)
+steps-few h goal (p ∷ []) = (omega arith, omega arith)
+steps-few h goal (p ∷ q ∷ rest) = let less = steps-few h goal (q ∷ rest) in (omega (arith, less .1), omega (arith, less .0))
+
+module _ (h : Hall) (fresh : Fresh h) where
+  abbrev g : Graph
+  g = portalGraph h
+
+  -- ---- paths of the detour are journeys of the graph
+  path-journey : {p e c : ℕ} → Path (portals h fresh) p e c → (nodes : List ℕ) × (n : ℕ) × Journey g (edgeCost h) e p nodes c n
+  path-journey (at {p}) = (p ∷ [], 0, arrived)
+  path-journey {e = e} (along {p} {q} {r} {w} {c} a b) =
+      let j = path-journey b in
+      let rest : Journey g (edgeCost h) e (g .head (a .arc)) (j .0) c (j .1) = rw (a .head-is) (j .2) in
+      let sum : w + c ≡ c + edgeCost h (a .arc) = omega (arith, a .cost-is) in
+      (p ∷ j .0, j .1 + 1, onward (a .arc) (a .below) (a .real) (a .tail-is) rest sum refl)
+
+  journey-path : {e p c n : ℕ} {nodes : List ℕ} → Journey g (edgeCost h) e p nodes c n → Path (portals h fresh) p e c
+  journey-path arrived = at
+  journey-path {e} (onward {u} {a} {b} k l r t j x y) =
+      let sum : b ≡ edgeCost h k + a = omega arith in
+      let edge : Arc h u (g .head k) (edgeCost h k) = record { arc = k; below = l; real = r; tail-is = t; head-is = refl; cost-is = refl } in
+      rw sum (along edge (journey-path j))
+
+  portal-node : (p : ℕ) → isPortal h p ≡ true → p < g .nodes
+  unfolding portalGraph
+  portal-node p e = omega (arith, portal-on h p e)
+
+  -- a path from a portal ends at one
+  path-ends : {p e c : ℕ} → Path (portals h fresh) p e c → isPortal h p ≡ true → isPortal h e ≡ true
+  path-ends at a = a
+  path-ends (along {p} {q} k b) a = path-ends b (rw (k .head-is) at (head-portal h (k .arc) (k .below) (k .real)))
+
+  -- ---- the least cost of a path, by its key
+  linkedBy : ℕ → ℕ → Bool
+  linkedBy p e = isPortal h p && (isPortal h e && ltb (getD (keysTo g e) p 0) unlinked)
+
+  costBy : ℕ → ℕ → ℕ
+  costBy p e = costOfKey (getD (keysTo g e) p 0)
+
+  record Linked (p e : ℕ) : Type 0 where
+    start : isPortal h p ≡ true
+    end : isPortal h e ≡ true
+    key : getD (keysTo g e) p 0 < unlinked
+
+  linked-is : (p e : ℕ) → linkedBy p e ≡ true → Linked p e
+  unfolding linkedBy
+  linked-is p e t =
+      let a = both (isPortal h p) (isPortal h e && ltb (getD (keysTo g e) p 0) unlinked) t in
+      let b = both (isPortal h e) (ltb (getD (keysTo g e) p 0) unlinked) (a .1) in
+      record { start = a .0; end = b .0; key = ltb-true (getD (keysTo g e) p 0) unlinked (b .1) }
+
+  is-linked : (p e : ℕ) → Linked p e → linkedBy p e ≡ true
+  unfolding linkedBy
+  is-linked p e l = rw (l .start, l .end, lt-ltb (getD (keysTo g e) p 0) unlinked (l .key))
+
+  before-cost : {rank : ℕ → ℕ} {p q : List ℕ} {a b m n : ℕ} → Before rank p q a b m n → a ≤ b
+  before-cost (cheaper l) = omega arith
+  before-cost (shorter e l) = omega arith
+  before-cost (earlier e f x) = omega arith
+
+  -- a path between portals: they are linked, at no more
+  path-linked : {p e c : ℕ} → isPortal h p ≡ true → Path (portals h fresh) p e c → Linked p e × (costBy p e ≤ c)
+  unfolding costBy
+  path-linked {p} {e} {c} a b =
+      let end = path-ends b a in
+      let j = path-journey b in
+      let low = linked h (fits h fresh) e (portal-node e end) (j .2) in
+      let least = least-path h (fits h fresh) e (portal-node e end) p (portal-node p a) low in
+      (record { start = a; end = end; key = low }, before-cost (least .1 (j .0) c (j .1) (j .2)))
+
+  pub lengths : Lengths (portals h fresh)
+  unfolding costBy
+  lengths = record {
+    joined = joined (h .scaled);
+    moves = movesTo (h .scaled);
+    linked = linkedBy;
+    cost = costBy;
+    moves-least = fewest (h .measures) (h .scaled);
+    cost-least = record {
+      attained = λ p e t. let l = linked-is p e t in journey-path (least-path h (fits h fresh) e (portal-node e (l .end)) p (portal-node p (l .start)) (l .key) .0);
+      found = λ p e c a b. is-linked p e (path-linked a b .0);
+      lowest = λ p e c a b. path-linked a b .1;
+    };
+  }
+
+  -- ---- the candidates of a route
+  end-of : choice.Pair → ℕ
+  end-of z = z .end .portal
+
+  leg-by : ℕ → choice.Pair → ℕ
+  leg-by source z = movesTo (h .scaled) source (midCell h (z .start))
+
+  candidates : ℕ → ℕ → List choice.Pair
+  candidates source goal = pairs linkedPair (starts h source) (map (endOf h g goal) (ends h goal))
+
+  -- a linked pair, and back
+  link-is : (p : ℕ) (e : End) {z : choice.Pair} → In z (linkedPair p e) → (z ≡ record { start = p; end = e }) × (getD (e .keys) p 0 < unlinked)
+  unfolding linkedPair
+  link-is p e {z} = go (ltb (getD (e .keys) p 0) unlinked) refl
+    where
+      go : (t : Bool) → ltb (getD (e .keys) p 0) unlinked ≡ t → In z (pick t (record { start = p; end = e } ∷ []) []) → (z ≡ record { start = p; end = e }) × (getD (e .keys) p 0 < unlinked)
+      go true q i = one (in-cons i)
+        where
+          one : (z ≡ record { start = p; end = e }) ⊎ In z [] → (z ≡ record { start = p; end = e }) × (getD (e .keys) p 0 < unlinked)
+          one (inl d) = (d, ltb-true (getD (e .keys) p 0) unlinked q)
+
+  link-has : (p : ℕ) (e : End) → getD (e .keys) p 0 < unlinked → In (record { start = p; end = e }) (linkedPair p e)
+  unfolding linkedPair
+  link-has p e l = rw (lt-ltb (getD (e .keys) p 0) unlinked l) here
+
+  -- the lists of starts and ends hold what they say
+  start-is : (source p : ℕ) → In p (starts h source) → (isPortal h p ≡ true) × (joined (h .scaled) source (midCell h p) ≡ true)
+  unfolding starts
+  start-is source p i = both (isPortal h p) (joined (h .scaled) source (midCell h p)) (passing-is (λ q. isPortal h q && joined (h .scaled) source (midCell h q)) 20 (sectorOf source * 20) i .2)
+
+  start-has : (source p : ℕ) → isPortal h p ≡ true → joined (h .scaled) source (midCell h p) ≡ true → In p (starts h source)
+  unfolding starts
+  start-has source p a j =
+      let s : sectorOf source ≡ portalSector p = joined-is (h .scaled) source (midCell h p) j .sector ∙ mid-sector h (fits h fresh) p a in
+      passing-has (λ q. isPortal h q && joined (h .scaled) source (midCell h q)) 20 (sectorOf source * 20) p (omega arith) (omega arith) (rw (a, j))
+
+  end-is : (goal e : ℕ) → In e (ends h goal) → (isPortal h e ≡ true) × (joined (h .scaled) (midCell h e) goal ≡ true)
+  unfolding ends
+  end-is goal e i = both (isPortal h e) (joined (h .scaled) (midCell h e) goal) (passing-is (λ q. isPortal h q && joined (h .scaled) (midCell h q) goal) 20 (sectorOf goal * 20) i .2)
+
+  end-has : (goal e : ℕ) → isPortal h e ≡ true → joined (h .scaled) (midCell h e) goal ≡ true → In e (ends h goal)
+  unfolding ends
+  end-has goal e a j =
+      let s : portalSector e ≡ sectorOf goal = sym (mid-sector h (fits h fresh) e a) ∙ joined-is (h .scaled) (midCell h e) goal j .sector in
+      passing-has (λ q. isPortal h q && joined (h .scaled) (midCell h q) goal) 20 (sectorOf goal * 20) e (omega arith) (omega arith) (rw (a, j))
+
+  -- ---- 01's choice
+  module _ (source goal : ℕ) where
+    candidate-is : (z : choice.Pair) → In z (candidates source goal)
+        → Pair (portals h fresh) lengths source goal (z .start) (end-of z) × (leg-by source z ≡ leg-of (portals h fresh) lengths source (z .start)) × (runOf z ≡ run-of (portals h fresh) lengths goal (z .start) (end-of z))
+    unfolding candidates end-of leg-by runOf endOf lengths costBy
+    candidate-is z i = made (pairs-is linkedPair (starts h source) (map (endOf h g goal) (ends h goal)) i)
+      where
+        made : (p : ℕ) × (e : End) × In p (starts h source) × In e (map (endOf h g goal) (ends h goal)) × In z (linkedPair p e)
+            → Pair (portals h fresh) lengths source goal (z .start) (end-of z) × (leg-by source z ≡ leg-of (portals h fresh) lengths source (z .start)) × (runOf z ≡ run-of (portals h fresh) lengths goal (z .start) (end-of z))
+        made w =
+            let e = map-is (endOf h g goal) (ends h goal) (w .3) in
+            let s = start-is source (w .0) (w .2) in
+            let t = end-is goal (e .0) (e .1) in
+            let k = link-is (w .0) (w .1) (w .4) in
+            rw (k .0, e .2)
+            (record { start-is = s .0; end-is = t .0; start-joined = s .1; end-joined = t .1; pair-linked = is-linked (w .0) (e .0) (record { start = s .0; end = t .0; key = rw (e .2) at (k .1) }) }, refl, refl)
+
+    candidate-has : (p e : ℕ) → Pair (portals h fresh) lengths source goal p e → (z : choice.Pair) × In z (candidates source goal) × (runOf z ≤ run-of (portals h fresh) lengths goal p e)
+    unfolding candidates runOf endOf lengths costBy
+    candidate-has p e w =
+        let l = linked-is p e (w .pair-linked) in
+        let end : End = record { portal = e; keys = keysTo g e; tail = movesTo (h .scaled) (midCell h e) goal } in
+        (record { start = p; end = end }, pairs-has linkedPair (start-has source p (w .start-is) (w .start-joined)) (map-has (endOf h g goal) (end-has goal e (w .end-is) (w .end-joined))) (link-has p end (l .key)), omega arith)
+
+    chosen-route : Chosen (portals h fresh) lengths source goal (Winning (leg-by source) runOf (candidates source goal))
+    chosen-route = chosen (portals h fresh) lengths source goal (λ z. z .start) end-of (leg-by source) runOf (candidates source goal) candidate-is candidate-has
+
+    -- the path of a candidate is short
+    path-room : (z : choice.Pair) → In z (candidates source goal) → length (stepsOf h goal true (leastPath h g (z .end .keys) (z .start))) ≤ 1001
+    unfolding candidates leastPath endOf portalGraph
+    path-room z i = made (pairs-is linkedPair (starts h source) (map (endOf h g goal) (ends h goal)) i)
+      where
+        made : (p : ℕ) × (e : End) × In p (starts h source) × In e (map (endOf h g goal) (ends h goal)) × In z (linkedPair p e) → length (stepsOf h goal true (leastPath h g (z .end .keys) (z .start))) ≤ 1001
+        made w =
+            let e = map-is (endOf h g goal) (ends h goal) (w .3) in
+            let s = start-is source (w .0) (w .2) in
+            let t = end-is goal (e .0) (e .1) in
+            let k = link-is (w .0) (w .1) (w .4) in
+            let few = few-edges (portal-keyed h (fits h fresh)) (keys-settled h (fits h fresh) (e .0) (portal-node (e .0) (t .0))) (nodeRank h) (w .0) (portal-node (w .0) (s .0)) (rw (e .2) at (k .1)) in
+            rw (k .0, e .2) (omega (arith, few .0, few .1, fresh .small, steps-few h goal (leastPath h g (keysTo g (e .0)) (w .0)) .0))
+
+    -- the route call finds a route of this leg and run
+    abbrev pub Gives : ℕ → ℕ → Type 0
+    Gives leg run = (steps : List RouteStep) × (routeOf h source goal ≡ route steps leg run)
+
+    -- where source and goal are not joined it gives what the winner has
+    module _ (apart : joined (h .scaled) source goal ≡ false) where
+      by-pairs : routeOf h source goal ≡ throughPair h g source goal (winner runOf nothing (candidates source goal))
+      unfolding routeOf throughPortals chosenPair candidates
+      by-pairs = rw apart
+
+      from-winner : (b : Best choice.Pair) → winner runOf nothing (candidates source goal) ≡ b → (steps : List RouteStep) (leg run : ℕ) → throughPair h g source goal b ≡ route steps leg run → Winning (leg-by source) runOf (candidates source goal) leg run
+      unfolding throughPair leg-by
+      from-winner nothing q steps leg run e = absurd (none-found e)
+      from-winner (best z) q steps leg run e = let x = same-found e in record { one = z; wins = q; leg-is = sym (x .1); run-is = sym (x .2) }
+
+      to-winner : (leg run : ℕ) → Winning (leg-by source) runOf (candidates source goal) leg run → Gives leg run
+      unfolding throughPair leg-by
+      to-winner leg run w =
+          let path = leastPath h g (w .one .end .keys) (w .one .start) in
+          (stepsOf h goal true path, by-pairs ∙ ap (throughPair h g source goal) (w .wins) ∙ ap₂ (λ (a b : ℕ). route (stepsOf h goal true path) a b) (sym (w .leg-is)) (sym (w .run-is)))
+
+      given-chosen : Chosen (portals h fresh) lengths source goal Gives
+      given-chosen = record {
+        some = λ p e w. let c = chosen-route .some p e w in (c .0, c .1, to-winner (c .0) (c .1) (c .2));
+        is = λ leg run a. chosen-route .is leg run (from-winner (winner runOf nothing (candidates source goal)) refl (a .0) leg run (sym by-pairs ∙ a .1));
+      }
+
+      -- THE ROUTE KEEPS THE PROMISE, with D = 5
+      pub route-promise : Promise (floorOf (h .measures) (h .scaled)) 5 source goal Gives
+      route-promise = promise (portals h fresh) lengths not-inside given-chosen
+        where
+          not-inside : (n : ℕ) → ¬ Inside (floorOf (h .measures) (h .scaled)) source goal n
+          not-inside n i = true≢false (sym (inside-joined (h .measures) (h .scaled) i .0) ∙ apart)
+
+      -- ROOM FOR 1,001 STEPS: a least path passes each of at most 2,000 portals once
+      pub route-room : (steps : List RouteStep) (leg run : ℕ) → routeOf h source goal ≡ route steps leg run → length steps ≤ 1001
+      unfolding throughPair leastPath
+      route-room steps leg run e = go (winner runOf nothing (candidates source goal)) refl (sym by-pairs ∙ e)
+        where
+          go : (b : Best choice.Pair) → winner runOf nothing (candidates source goal) ≡ b → throughPair h g source goal b ≡ route steps leg run → length steps ≤ 1001
+          go nothing q r = absurd (none-found r)
+          go (best z) q r = rw (← (same-found r .0)) (path-room z (winner-in runOf q))
