@@ -194,7 +194,7 @@ module _ (h : Hall) (fresh : Fresh h) where
     abbrev far : ℕ
     far = beyond (h .measures) s k
 
-    far-mark : markAt h far (opposite k) ≡ mark
+    pub far-mark : markAt h far (opposite k) ≡ mark
     far-mark = mark-at far (opposite k) (beyond-is .on) ∙ facing-marks (h .measures) (h .scaled) s on k there ∙ sym (mark-at s k on)
 
     place-open : (i : ℕ) → i < 10 → isOpen mark i ≡ openPlace (h .measures) (h .scaled) s k i

@@ -5,3 +5,7 @@ pub mod SectorMoves
 pub mod PortalEdges
 pub mod Gates
 pub mod RoutePromise
+pub mod ChangeAtOne
+pub mod StoreAfter
+pub mod Walks
+pub mod Demand3

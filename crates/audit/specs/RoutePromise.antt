@@ -31,10 +31,10 @@ use Rattle.audit.specs.PortalEdges.{Arc, portal-on, mid-sector}
 use Rattle.audit.specs.Gates.{Fresh, fits, portals}
 
 -- ---- what a route call finds, taken apart
-same-found : {s t : List RouteStep} {a b c d : ℕ} → route s a b ≡ route t c d → (s ≡ t) × (a ≡ c) × (b ≡ d)
+pub same-found : {s t : List RouteStep} {a b c d : ℕ} → route s a b ≡ route t c d → (s ≡ t) × (a ≡ c) × (b ≡ d)
 same-found e = (cc, cc, cc)
 
-none-found : {s : List RouteStep} {a b : ℕ} → none ≡ route s a b → ⊥
+pub none-found : {s : List RouteStep} {a b : ℕ} → none ≡ route s a b → ⊥
 none-found e = let z : _≡_ {A = ℕ} 0 1 = cc in omega arith
 
 -- of a path of so many portals at most half are listed, and one more

@@ -88,6 +88,13 @@ pub any-none : (p : ℕ → Bool) (n k : ℕ) → any p n ≡ false → k < n �
 unfolding any
 any-none p n k e l = first-before p n k (omega (arith, ltb-false (first p n) n e))
 
+pub any-has : (p : ℕ → Bool) (n k : ℕ) → k < n → p k ≡ true → any p n ≡ true
+any-has p n k l now = go (any p n) refl
+  where
+    go : (b : Bool) → any p n ≡ b → b ≡ true
+    go true e = refl
+    go false e = absurd (false-ne-true (sym (any-none p n k e l) ∙ now))
+
 -- ---- all
 pub all-at : (p : ℕ → Bool) (n k : ℕ) → all p n ≡ true → k < n → p k ≡ true
 unfolding all

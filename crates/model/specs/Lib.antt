@@ -13,12 +13,16 @@ pub mod WindowRuns
 pub mod Halls
 pub mod Portals
 pub mod Change
+pub mod Nearby
+pub mod ScaleLengths
+pub mod ScaleOne
 pub mod LeastPath
 pub mod LeastPathFirst
 pub mod Route
 pub mod RouteChosen
 pub mod Account
 pub mod Store
+pub mod StoreLayout
 pub mod Calls
 pub mod Listing
 pub mod Computing

@@ -1,0 +1,52 @@
+-- The nine places around a changed sector.
+use Prim.Native.Nat.{ℕ, zero, suc, _+_, _-_, _*_, _≤_, _<_}
+use native.Mathlib.Nat.{not-suc-le-zero, mul-le-mul, suc-mul, le-refl}
+use native.Mathlib.Omega.{arith}
+use native.Mathlib.Numerals.{unary-clauses}
+use mathlib.Core.Path.{_≡_}
+use mathlib.Core.Bool.{true, _&&_}
+use mathlib.Core.List.{List}
+use lib.Dec.{leb}
+use borrow.Author.Tests.{leb-true}
+use Rattle.laws.specs.Fold.{pick}
+use Rattle.laws.specs.Search.{both}
+use Rattle.model.specs.declared.Measures.{Measures}
+use Rattle.model.specs.Sectors.{sectors, columnOf, rowOf}
+use Rattle.model.specs.Directions.{compass, eastward, southward, shifted, onAxis, onFloor}
+use Rattle.model.specs.Change.{nearby, isThere}
+
+-- a place on an axis
+on-axis : (n wide : ℕ) → onAxis n wide ≡ true → (1 ≤ n) × (n ≤ wide)
+on-axis n wide h = let t = both (leb 1 n) (leb n wide) h in (leb-true 1 n (t .0), leb-true n wide (t .1))
+
+-- a shift that stays on the floor leads to one of its sectors
+pub shifted-lt : (m : Measures) (s east south : ℕ) → onFloor m s east south ≡ true → shifted m s east south < sectors m
+unfolding onFloor
+shifted-lt m s east south h =
+    let t = both (onAxis (columnOf m s + east) (m .columns)) (onAxis (rowOf m s + south) (m .rows)) h in
+    let x = on-axis (columnOf m s + east) (m .columns) (t .0) in
+    let y = on-axis (rowOf m s + south) (m .rows) (t .1) in
+    let column = columnOf m s + east - 1 in
+    let room : suc column * m .rows ≤ sectors m = mul-le-mul (omega arith) (le-refl (m .rows)) in
+    omega (arith, room, suc-mul column (m .rows))
+
+-- a step made for the sector at place k, if there is one
+abbrev pub atNearby : Measures → ℕ → (ℕ → List ℕ → List ℕ) → ℕ → List ℕ → List ℕ
+atNearby m t step k xs = pick (isThere m t k) (step (nearby m t k) xs) xs
+
+-- place k, from 1 on, lies in direction k - 1
+pub nearby-from : (m : Measures) (t k : ℕ) → 1 ≤ k → nearby m t k ≡ shifted m t (eastward (compass (k - 1))) (southward (compass (k - 1)))
+unfolding nearby
+nearby-from m t zero h = absurd (not-suc-le-zero h)
+nearby-from m t (suc k) h = simp unary-clauses
+
+pub is-there-from : (m : Measures) (t k : ℕ) → 1 ≤ k → isThere m t k ≡ onFloor m t (eastward (compass (k - 1))) (southward (compass (k - 1)))
+unfolding isThere
+is-there-from m t zero h = absurd (not-suc-le-zero h)
+is-there-from m t (suc k) h = simp unary-clauses
+
+-- what is there is a sector of the floor
+pub nearby-lt : (m : Measures) (t k : ℕ) → t < sectors m → isThere m t k ≡ true → nearby m t k < sectors m
+unfolding nearby isThere
+nearby-lt m t zero l h = l
+nearby-lt m t (suc k) l h = shifted-lt m t (eastward (compass k)) (southward (compass k)) h
