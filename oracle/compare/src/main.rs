@@ -1,0 +1,95 @@
+//! Holds a router against the Rust of docs/src, on seeded cases.
+
+mod best;
+mod damaged;
+mod floors;
+mod halls;
+mod options;
+mod plans;
+mod refusals;
+mod report;
+mod routes;
+mod sabotage;
+mod second_router;
+mod text;
+mod trial;
+
+use std::process::ExitCode;
+
+use calls::Router;
+use options::{Command, Options};
+use report::Report;
+use sabotage::Sabotaged;
+use second_router::Second;
+
+fn main() -> ExitCode {
+    // A panic is an answer of the Rust here, or else reported as a difference.
+    std::panic::set_hook(Box::new(|_| {}));
+    let arguments: Vec<String> = std::env::args().skip(1).collect();
+    let options = match Options::parse(&arguments) {
+        Ok(options) => options,
+        Err(error) => {
+            eprintln!("{error}\n{}", options::USAGE);
+            return ExitCode::from(2);
+        }
+    };
+    exit(match options.command {
+        Command::All => all(&options),
+        Command::Selfcheck => sabotage::selfcheck(&options),
+        _ => {
+            let report = run(&options);
+            report.print(&options);
+            report.differences.is_empty()
+        }
+    })
+}
+
+/// The parts of a whole comparison.
+const PARTS: [Command; 5] = [
+    Command::Floors,
+    Command::Halls,
+    Command::Lent,
+    Command::Plans,
+    Command::Damaged,
+];
+
+/// Runs every part and the self-check, with one line about all of it at the end.
+fn all(options: &Options) -> bool {
+    let mut whole = Report::default();
+    for command in PARTS {
+        let part = options.part(command, options.count);
+        let report = run(&part);
+        report.print(&part);
+        whole.take_in(report);
+    }
+    let checked = sabotage::selfcheck(options);
+    println!("compare all: {}", whole.line());
+    checked && whole.differences.is_empty()
+}
+
+/// Runs all cases that the options ask for.
+fn run(options: &Options) -> Report {
+    match options.sabotage {
+        Some(kind) => run_with(&Sabotaged { kind }, options),
+        None => run_with(&Second, options),
+    }
+}
+
+fn run_with(router: &dyn Router, options: &Options) -> Report {
+    report::run_cases(options, |case, report| match options.command {
+        Command::Halls => halls::built(router, options, case, report),
+        Command::Lent => halls::lent(router, options, case, report),
+        Command::Plans => plans::compare(router, options, case, report),
+        Command::Damaged => damaged::compare(router, options, case, report),
+        Command::Floors => floors::compare(router, case, report),
+        Command::Selfcheck | Command::All => unreachable!("these run the others"),
+    })
+}
+
+fn exit(good: bool) -> ExitCode {
+    if good {
+        ExitCode::SUCCESS
+    } else {
+        ExitCode::FAILURE
+    }
+}

@@ -1,0 +1,116 @@
+//! The command line.
+
+use crate::sabotage::Sabotage;
+
+pub const USAGE: &str = "\
+compare halls     built halls: stores, windows, changes, routes, program
+compare lent      lent stores: windows, changes, routes
+compare plans     plans
+compare damaged   damaged files and stores, and every argument out of range
+compare floors    the floors that document 01 lists, and a few more
+compare selfcheck every sabotage is reported
+compare all       all of these, with one last line
+  --seed S      the seed (1)
+  --first N     the first case (0)
+  --count N     how many cases (100)
+  --routes M    routes on each hall before its changes, and again after them (5)
+  --changes K   changes of each hall (5)
+  --threads T   1 or 2 (1)
+  --sabotage K  spoils the answers on purpose: tie, midpoint, target, mark, windows,
+                leg, run, none, tail, refused, file, plan, program";
+
+/// What is compared.
+#[derive(Clone, Copy, PartialEq, Eq)]
+pub enum Command {
+    Halls,
+    Lent,
+    Plans,
+    Damaged,
+    Floors,
+    Selfcheck,
+    All,
+}
+
+const COMMANDS: [(&str, Command); 7] = [
+    ("halls", Command::Halls),
+    ("lent", Command::Lent),
+    ("plans", Command::Plans),
+    ("damaged", Command::Damaged),
+    ("floors", Command::Floors),
+    ("selfcheck", Command::Selfcheck),
+    ("all", Command::All),
+];
+
+#[derive(Clone)]
+pub struct Options {
+    pub command: Command,
+    pub seed: u64,
+    pub first: u64,
+    pub count: u64,
+    pub routes: usize,
+    pub changes: usize,
+    pub threads: usize,
+    pub sabotage: Option<Sabotage>,
+}
+
+impl Options {
+    fn new(command: Command) -> Self {
+        Options {
+            command,
+            seed: 1,
+            first: 0,
+            count: 100,
+            routes: 5,
+            changes: 5,
+            threads: 1,
+            sabotage: None,
+        }
+    }
+
+    /// A command, then names with values.
+    pub fn parse(arguments: &[String]) -> Result<Self, String> {
+        let (name, rest) = arguments.split_first().ok_or("no command")?;
+        let command = COMMANDS.iter().find(|command| command.0 == name);
+        let mut options = Options::new(command.ok_or(format!("no command {name}"))?.1);
+        for pair in rest.chunks(2) {
+            match pair {
+                [name, value] => options.set(name, value)?,
+                _ => return Err(format!("{} has no value", pair[0])),
+            }
+        }
+        Ok(options)
+    }
+
+    fn set(&mut self, name: &str, value: &str) -> Result<(), String> {
+        let number = || value.parse::<u64>().map_err(|_| format!("{name} {value}"));
+        match name {
+            "--seed" => self.seed = number()?,
+            "--first" => self.first = number()?,
+            "--count" => self.count = number()?,
+            "--routes" => self.routes = number()? as usize,
+            "--changes" => self.changes = number()? as usize,
+            "--threads" => self.threads = number()?.max(1) as usize,
+            "--sabotage" => self.sabotage = Some(Sabotage::named(value)?),
+            _ => return Err(format!("no option {name}")),
+        }
+        Ok(())
+    }
+
+    /// The same options for another command. Plans and listed floors are so small
+    /// that a hundred of them stand for one case.
+    pub fn part(&self, command: Command, count: u64) -> Self {
+        let small = [Command::Plans, Command::Floors].contains(&command);
+        let times = if small { 100 } else { 1 };
+        Options {
+            command,
+            count: count * times,
+            ..self.clone()
+        }
+    }
+
+    /// The command's name.
+    pub fn name(&self) -> &'static str {
+        let command = COMMANDS.iter().find(|command| command.1 == self.command);
+        command.map_or("", |command| command.0)
+    }
+}

@@ -1,0 +1,170 @@
+//! Answers spoiled on purpose, to show that each kind of difference is reported.
+
+use calls::{Counted, Judge, Measures, Routed, Router, Step, Window};
+use reference_petgraph::Hall as Petgraph;
+
+use crate::options::{Command, Options};
+use crate::second_router::Second;
+
+/// What is spoiled.
+#[derive(Clone, Copy, PartialEq, Eq, Debug)]
+pub enum Sabotage {
+    Tie,
+    Midpoint,
+    Target,
+    Mark,
+    Windows,
+    Leg,
+    Run,
+    None,
+    Tail,
+    Refused,
+    File,
+    Plan,
+    Program,
+}
+
+const KINDS: [(&str, Sabotage, Command); 13] = [
+    ("tie", Sabotage::Tie, Command::Halls),
+    ("midpoint", Sabotage::Midpoint, Command::Halls),
+    ("target", Sabotage::Target, Command::Halls),
+    ("mark", Sabotage::Mark, Command::Halls),
+    ("windows", Sabotage::Windows, Command::Lent),
+    ("leg", Sabotage::Leg, Command::Lent),
+    ("run", Sabotage::Run, Command::Lent),
+    ("none", Sabotage::None, Command::Halls),
+    ("tail", Sabotage::Tail, Command::Halls),
+    ("refused", Sabotage::Refused, Command::Lent),
+    ("file", Sabotage::File, Command::Damaged),
+    ("plan", Sabotage::Plan, Command::Plans),
+    ("program", Sabotage::Program, Command::Damaged),
+];
+
+impl Sabotage {
+    pub fn named(name: &str) -> Result<Self, String> {
+        let kind = KINDS.iter().find(|kind| kind.0 == name);
+        Ok(kind.ok_or(format!("no sabotage {name}"))?.1)
+    }
+}
+
+/// Cases that are enough to meet every sabotage.
+const CASES: u64 = 40;
+
+/// Runs each sabotage; good if every one is reported.
+pub fn selfcheck(options: &Options) -> bool {
+    let mut reported = 0;
+    for (name, kind, command) in KINDS {
+        let mut options = options.part(command, CASES);
+        options.sabotage = Some(kind);
+        let differences = crate::run(&options).differences.len();
+        println!(
+            "  {name} spoiled in {}: {differences} differences",
+            options.name()
+        );
+        reported += usize::from(differences > 0);
+    }
+    println!(
+        "selfcheck: {reported} of {} sabotages reported",
+        KINDS.len()
+    );
+    reported == KINDS.len()
+}
+
+/// The second reading with one kind of answer spoiled.
+pub struct Sabotaged {
+    pub kind: Sabotage,
+}
+
+impl Router for Sabotaged {
+    fn plan(&self, values: [f32; 4]) -> Measures {
+        let mut answer = Second.plan(values);
+        // The exact quotient rounded up, in place of the rounded one.
+        let exact = (f64::from(values[3]) / f64::from(values[2])).ceil();
+        if self.kind == Sabotage::Plan && answer.number == 0 {
+            answer.scale = exact as u8;
+        }
+        answer
+    }
+
+    fn read_file(&self, file: &[u8], base: &mut [u8]) -> Measures {
+        let answer = Second.read_file(file, base);
+        if self.kind == Sabotage::File && answer.number == 15 {
+            base.fill(1);
+        }
+        answer
+    }
+
+    fn build(&self, measures: [u8; 3], base: &[u8], store: &mut [u8]) -> u8 {
+        let number = Second.build(measures, base, store);
+        let (scaled, marks) = (4 + base.len(), 4 + 2 * base.len());
+        if number != 0 {
+            return number;
+        }
+        match self.kind {
+            Sabotage::Target => move_write(base, &mut store[scaled..marks]),
+            Sabotage::Mark => store[marks + 4] ^= 1,
+            Sabotage::Tail => *store.last_mut().expect("a store has bytes") = 0,
+            _ => {}
+        }
+        number
+    }
+
+    fn change(&self, store: &mut [u8], floor_number: usize, cost: u8) -> u8 {
+        let number = Second.change(store, floor_number, cost);
+        if self.kind == Sabotage::Refused && number == 22 {
+            store[4 + floor_number] = cost;
+        }
+        number
+    }
+
+    fn windows(&self, store: &[u8], sector: usize, list: &mut [Window]) -> Counted {
+        let answer = Second.windows(store, sector, list);
+        if self.kind == Sabotage::Windows && answer.count > 1 {
+            list.swap(0, 1);
+        }
+        answer
+    }
+
+    fn route(&self, store: &[u8], source: usize, goal: usize, list: &mut [Step]) -> Routed {
+        let mut answer = Second.route(store, source, goal, list);
+        let (length, over_portals) = (answer.steps as usize, answer.steps > 1);
+        match self.kind {
+            Sabotage::Tie if over_portals => {
+                let steps = Petgraph::from_store(store).route(source, goal);
+                list[..length].copy_from_slice(&steps.expect("a route")[..length]);
+            }
+            Sabotage::Midpoint if over_portals => round_up(&mut list[0]),
+            Sabotage::Leg if over_portals => answer.leg += 1,
+            Sabotage::Run if over_portals => answer.run += answer.leg,
+            Sabotage::None if length > 4 => answer = Routed::default(),
+            _ => {}
+        }
+        answer
+    }
+
+    fn hallroute(&self, input: &[u8]) -> Vec<u8> {
+        let mut lines = Second.hallroute(input);
+        if self.kind == Sabotage::Program && lines.ends_with(b"cut\n") {
+            lines.truncate(lines.len() - 4);
+        }
+        lines
+    }
+}
+
+/// Moves one write of scaling to the same place of the next sector.
+fn move_write(base: &[u8], scaled: &mut [u8]) {
+    let written = (0..scaled.len()).find(|cell| scaled[*cell] == 255 && base[*cell] != 255);
+    if let Some(cell) = written.filter(|cell| cell + 100 < scaled.len()) {
+        scaled[cell] = base[cell];
+        scaled[cell + 100] = 255;
+    }
+}
+
+/// The midpoint cut up instead of down.
+fn round_up(step: &mut Step) {
+    if let Some(window) = step.window {
+        let stride = if window.side % 2 == 0 { 1 } else { 10 };
+        let places = (window.last - window.first) / stride;
+        step.goal = window.first + places.div_ceil(2) * stride;
+    }
+}

@@ -1,0 +1,1 @@
+//! Absent from docs/src: integration fields, which document 01 leaves out.

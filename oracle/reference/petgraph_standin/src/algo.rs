@@ -1,0 +1,5 @@
+//! The search.
+
+pub mod astar;
+
+pub use astar::astar;
