@@ -172,7 +172,7 @@ none-more true b c x y e = rw (le-ltb x y (omega (arith, e refl))) (last b c)
     last false c = refl
 
 -- 22 CANNOT OCCUR: in a fresh hall facing sides have as many windows
-pub fresh-exceeds : (h : Hall) → Fresh h → (t : ℕ) → exceeds t h ≡ false
+pub fresh-exceeds : (h : Hall) → Fresh h → (t : ℕ) → exceeds h t ≡ false
 unfolding exceeds exceedsAt
 fresh-exceeds h fresh t =
     sym (any-no (λ k. exceedsAt h t (k / 4) (sideAt (k % 4))) (sectors (h .measures) * 4) (sectors (h .measures) * 4) (omega arith) (λ k l. level (k / 4) (omega arith) (sideAt (k % 4))))

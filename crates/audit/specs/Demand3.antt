@@ -149,10 +149,13 @@ module _ (lent : List ℕ) (a : Account) (st : List ℕ) (f : Follows lent a st)
   given : (steps leg run : ℕ) → routeAnswer st source goal room ≡ answer.Route steps leg run → Gives hall is-fresh source goal leg run
   given steps leg run e = routed-is (foundNumber hall source goal room (routeOf hall source goal)) (routeOf hall source goal) steps leg run (sym answer-is ∙ e)
 
-  -- an open cell is on the floor
-  on-floor : (x : ℕ) → floorOf (a .measures) (accountCosts a) .Open x → x < cells (a .measures)
+  -- a cost for each cell, so that an open cell is on the floor
+  cell-costs : length (accountCosts a) ≡ cells (a .measures)
   unfolding built accountCosts
-  on-floor x o = omega (arith, open-on (accountCosts a) x o, is-fresh .sized)
+  cell-costs = is-fresh .sized
+
+  on-floor : (x : ℕ) → floorOf (a .measures) (accountCosts a) .Open x → x < cells (a .measures)
+  on-floor x o = omega (arith, open-on (accountCosts a) x o, cell-costs)
 
   -- a route found is answered
   answered : (leg run : ℕ) → Gives hall is-fresh source goal leg run → (steps leg run : ℕ) × (routeAnswer st source goal room ≡ answer.Route steps leg run)
@@ -167,11 +170,11 @@ module _ (lent : List ℕ) (a : Account) (st : List ℕ) (f : Follows lent a st)
   claim : Claim a st source goal room
   claim = record {
     exactly-when = (
-      λ r. let w = kept .exactly-when .0 (r .1, r .2, given (r .0) (r .1) (r .2) (r .3)) in (w .0, w .1, walk-is a source goal (w .0) (w .1) .0 (w .2)),
-      λ w. let g = kept .exactly-when .1 (w .0, w .1, walk-is a source goal (w .0) (w .1) .1 (w .2)) in answered (g .0) (g .1) (g .2),
+      λ r. let w = kept .exactly-when .0 (r .1, r .2, given (r .0) (r .1) (r .2) (r .3)) in (w .0, w .1, walk-is a cell-costs source goal (w .0) (w .1) .0 (w .2)),
+      λ w. let g = kept .exactly-when .1 (w .0, w .1, walk-is a cell-costs source goal (w .0) (w .1) .1 (w .2)) in answered (g .0) (g .1) (g .2),
     );
-    some-walk = λ steps leg run e. let w = kept .is-a-walk leg run (given steps leg run e) in (w .0, walk-is a source goal (leg + run) (w .0) .0 (w .1));
-    at-most = λ steps leg run e n k w. kept .at-most leg run (given steps leg run e) n k (walk-is a source goal n k .1 w);
+    some-walk = λ steps leg run e. let w = kept .is-a-walk leg run (given steps leg run e) in (w .0, walk-is a cell-costs source goal (leg + run) (w .0) .0 (w .1));
+    at-most = λ steps leg run e n k w. kept .at-most leg run (given steps leg run e) n k (walk-is a cell-costs source goal n k .1 w);
   }
 
 build-follows : (m : Measures) (base lent : List ℕ) → buildNumber m base lent ≡ 0 → Follows lent (opening m base) (buildInto m base lent)

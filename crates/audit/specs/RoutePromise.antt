@@ -23,7 +23,7 @@ use Rattle.model.specs.Halls.{Hall}
 use Rattle.model.specs.Portals.{portalSector, isPortal, midCell, portalGraph}
 use Rattle.model.specs.LeastPath.{nodeRank, unlinked, keysTo, costOfKey, leastPath}
 use Rattle.model.specs.LeastPathFirst.{edgeCost, portal-keyed, keys-settled, head-portal, linked, least-path}
-use Rattle.model.specs.Route.{End, starts, ends, endOf, linkedPair, runOf, chosenPair, stepsOf, Found, route, none, throughPair, throughPortals, routeOf}
+use Rattle.model.specs.Route.{End, starts, ends, endOf, linkedPair, runOf, routePairs, chosenPair, stepsOf, Found, route, none, throughPair, throughPortals, routeOf}
 use Rattle.model.specs.Route as choice
 use Rattle.audit.specs.Crossings.{floorOf}
 use Rattle.audit.specs.SectorMoves.{fewest, inside-joined}
@@ -133,8 +133,8 @@ module _ (h : Hall) (fresh : Fresh h) where
   leg-by : ℕ → choice.Pair → ℕ
   leg-by source z = movesTo (h .scaled) source (midCell h (z .start))
 
-  candidates : ℕ → ℕ → List choice.Pair
-  candidates source goal = pairs linkedPair (starts h source) (map (endOf h g goal) (ends h goal))
+  abbrev candidates : ℕ → ℕ → List choice.Pair
+  candidates source goal = routePairs h g source goal
 
   -- a linked pair, and back
   link-is : (p : ℕ) (e : End) {z : choice.Pair} → In z (linkedPair p e) → (z ≡ record { start = p; end = e }) × (getD (e .keys) p 0 < unlinked)
@@ -176,7 +176,7 @@ module _ (h : Hall) (fresh : Fresh h) where
   module _ (source goal : ℕ) where
     candidate-is : (z : choice.Pair) → In z (candidates source goal)
         → Pair (portals h fresh) lengths source goal (z .start) (end-of z) × (leg-by source z ≡ leg-of (portals h fresh) lengths source (z .start)) × (runOf z ≡ run-of (portals h fresh) lengths goal (z .start) (end-of z))
-    unfolding candidates end-of leg-by runOf endOf lengths costBy
+    unfolding routePairs end-of leg-by runOf endOf lengths costBy
     candidate-is z i = made (pairs-is linkedPair (starts h source) (map (endOf h g goal) (ends h goal)) i)
       where
         made : (p : ℕ) × (e : End) × In p (starts h source) × In e (map (endOf h g goal) (ends h goal)) × In z (linkedPair p e)
@@ -190,10 +190,10 @@ module _ (h : Hall) (fresh : Fresh h) where
             (record { start-is = s .0; end-is = t .0; start-joined = s .1; end-joined = t .1; pair-linked = is-linked (w .0) (e .0) (record { start = s .0; end = t .0; key = rw (e .2) at (k .1) }) }, refl, refl)
 
     candidate-has : (p e : ℕ) → Pair (portals h fresh) lengths source goal p e → (z : choice.Pair) × In z (candidates source goal) × (runOf z ≤ run-of (portals h fresh) lengths goal p e)
-    unfolding candidates runOf endOf lengths costBy
+    unfolding routePairs runOf endOf lengths costBy
     candidate-has p e w =
         let l = linked-is p e (w .pair-linked) in
-        let end : End = record { portal = e; keys = keysTo g e; tail = movesTo (h .scaled) (midCell h e) goal } in
+        let end : End = record { portal = e; keys = keysTo g e; lastMoves = movesTo (h .scaled) (midCell h e) goal } in
         (record { start = p; end = end }, pairs-has linkedPair (start-has source p (w .start-is) (w .start-joined)) (map-has (endOf h g goal) (end-has goal e (w .end-is) (w .end-joined))) (link-has p end (l .key)), omega arith)
 
     chosen-route : Chosen (portals h fresh) lengths source goal (Winning (leg-by source) runOf (candidates source goal))
@@ -201,7 +201,7 @@ module _ (h : Hall) (fresh : Fresh h) where
 
     -- the path of a candidate is short
     path-room : (z : choice.Pair) → In z (candidates source goal) → length (stepsOf h goal true (leastPath h g (z .end .keys) (z .start))) ≤ 1001
-    unfolding candidates leastPath endOf portalGraph
+    unfolding routePairs leastPath endOf portalGraph
     path-room z i = made (pairs-is linkedPair (starts h source) (map (endOf h g goal) (ends h goal)) i)
       where
         made : (p : ℕ) × (e : End) × In p (starts h source) × In e (map (endOf h g goal) (ends h goal)) × In z (linkedPair p e) → length (stepsOf h goal true (leastPath h g (z .end .keys) (z .start))) ≤ 1001
@@ -220,7 +220,7 @@ module _ (h : Hall) (fresh : Fresh h) where
     -- where source and goal are not joined it gives what the winner has
     module _ (apart : joined (h .scaled) source goal ≡ false) where
       by-pairs : routeOf h source goal ≡ throughPair h g source goal (winner runOf nothing (candidates source goal))
-      unfolding routeOf throughPortals chosenPair candidates
+      unfolding routeOf throughPortals chosenPair
       by-pairs = rw apart
 
       from-winner : (b : Best choice.Pair) → winner runOf nothing (candidates source goal) ≡ b → (steps : List RouteStep) (leg run : ℕ) → throughPair h g source goal b ≡ route steps leg run → Winning (leg-by source) runOf (candidates source goal) leg run

@@ -1,5 +1,5 @@
 -- 01, "The hall account of demand 3", and the calls that it is fed.
-use Prim.Native.Nat.{ℕ, suc, _+_, _/_}
+use Prim.Native.Nat.{ℕ, suc, _+_, _/_, _<_}
 use mathlib.Core.Path.{_≡_}
 use mathlib.Core.Logic.{_⊎_}
 use mathlib.Core.Bool.{Bool, true, _&&_}
@@ -22,7 +22,7 @@ pub record Account : Type 0 where
   pub measures : Measures
   pub base : List ℕ
 
--- "At scale 1, a change whose floor number lies on the floor puts its cost there. No other change alters the account, nor does any route call"
+-- "At scale 1, a change whose floor number lies on the floor puts its cost there. No other change alters the account (by the premises it is refused), nor does any route call, whatever it answers"
 unfoldable pub fed : Account → Call → Account
 fed a (change n cost) = pick (eqb (a .measures .scale) 1 && ltb n (cells (a .measures))) (record { measures = a .measures; base = set (a .base) n cost }) a
 fed a (route source goal room) = a
@@ -42,10 +42,10 @@ OneApart x y = (y ≡ suc x) ⊎ (x ≡ suc y)
 abbrev pub ShareSide : Measures → ℕ → ℕ → Type 0
 ShareSide m x y = ((across m x ≡ across m y) × OneApart (down m x) (down m y)) ⊎ ((down m x ≡ down m y) × OneApart (across m x) (across m y))
 
--- "a list of one or more cells of the floor: each next one shares a side with the one before, and none has scaled cost 255": from x over the cells of the list to y
+-- "a list of one or more cells of the floor: each next one shares a side with the one before, over a sector border too, and none has scaled cost 255": from x over the cells of the list to y
 abbrev pub Along : Measures → List ℕ → ℕ → List ℕ → ℕ → Type 0
-Along m costs x [] y = (openAt costs x ≡ true) × (x ≡ y)
-Along m costs x (z ∷ rest) y = (openAt costs x ≡ true) × ShareSide m x z × Along m costs z rest y
+Along m costs x [] y = (x < cells m) × (openAt costs x ≡ true) × (x ≡ y)
+Along m costs x (z ∷ rest) y = (x < cells m) × (openAt costs x ≡ true) × ShareSide m x z × Along m costs z rest y
 
 -- "k counts its moves into another sector, each time anew"
 unfoldable pub crossings : ℕ → List ℕ → ℕ

@@ -49,7 +49,7 @@ unfoldable pub orElse : ℕ → ℕ → ℕ
 orElse zero rest = rest
 orElse (suc n) rest = suc n
 
--- "a refusal alters no lent byte": what is lent is new where the number is 0, and else as it was
+-- "a refusal alters no lent byte or record" (demand 1): what is lent is new where the number is 0, and else as it was
 unfoldable pub ifAccepted : {A : Type 0} → ℕ → A → A → A
 ifAccepted zero new old = new
 ifAccepted (suc n) new old = old
@@ -77,8 +77,8 @@ valueNumber d =
     (refuse (le (d .unit) fzero) 4 0)))
 
 -- 5 "columns or rows below 1 before the cut", 6 "radius ≥ sector length", 7 "scale ≥ 10", 8 "scale 0", 9 "columns or rows above 10"
-unfoldable pub hallNumber : Dimensions → ℕ
-hallNumber d =
+unfoldable pub measureNumber : Dimensions → ℕ
+measureNumber d =
     refuse (lt (acrossQuotient d) fone || lt (downQuotient d) fone) 5
     (refuse (le (sectorLength d) (d .radius)) 6
     (refuse (leb 10 (scaleOf d)) 7
@@ -86,7 +86,7 @@ hallNumber d =
     (refuse (ltb 10 (cutDown (acrossQuotient d)) || ltb 10 (cutDown (downQuotient d))) 9 0))))
 
 unfoldable pub planNumber : Dimensions → ℕ
-planNumber d = orElse (valueNumber d) (hallNumber d)
+planNumber d = orElse (valueNumber d) (measureNumber d)
 
 unfoldable pub planAnswer : Dimensions → Measured
 planAnswer d = measured (planNumber d) (record { columns = cutDown (acrossQuotient d); rows = cutDown (downQuotient d); scale = scaleOf d })
@@ -148,9 +148,9 @@ checkNumber st =
     (refuse (any (badMark (measuresAt st) (marksIn (measuresAt st) st)) (sectors (measuresAt st) * 4)) 20 0)))))
 
 -- ---- change
--- 21 "floor number too large", 22
+-- 21 "floor number too large", 22; `new` is the hall after the change
 unfoldable pub alterNumber : Hall → ℕ → Hall → ℕ
-alterNumber h n new = refuse (leb (cells (h .measures)) n) 21 (refuse (exceeds (sectorOf n) new) 22 0)
+alterNumber h n new = refuse (leb (cells (h .measures)) n) 21 (refuse (exceeds new (sectorOf n)) 22 0)
 
 unfoldable pub changeNumber : List ℕ → ℕ → ℕ → ℕ
 changeNumber st n cost = orElse (checkNumber st) (alterNumber (decode st) n (changed (decode st) n cost))

@@ -52,11 +52,11 @@ changed h n cost =
     let costs = rescaled (h .measures) base (sectorOf n) (h .scaled) in
     record { measures = h .measures; base = base; scaled = costs; marks = remarked (h .measures) costs (sectorOf n) (h .marks) }
 
--- 22: side k % 4 of sector k / 4, "marked afresh, has more windows on a side than the facing side of a sector not marked afresh"
+-- 22: "a sector marked afresh has more windows on a side than the facing side of a sector not marked afresh", of a hall with its sectors around t marked
 unfoldable pub exceedsAt : Hall → ℕ → ℕ → Side → Bool
 exceedsAt h t s side =
     hasBeyond (h .measures) s side && isNearby (h .measures) t s && not (isNearby (h .measures) t (beyond (h .measures) s side))
     && ltb (windowCount (markAt h (beyond (h .measures) s side) (opposite side))) (windowCount (markAt h s side))
 
-unfoldable pub exceeds : ℕ → Hall → Bool
-exceeds t h = any (λ k. exceedsAt h t (k / 4) (sideAt (k % 4))) (sectors (h .measures) * 4)
+unfoldable pub exceeds : Hall → ℕ → Bool
+exceeds h t = any (λ k. exceedsAt h t (k / 4) (sideAt (k % 4))) (sectors (h .measures) * 4)

@@ -11,21 +11,22 @@ use Rattle.model.specs.Windows.{borderCell, firstPlace, lastPlace}
 use Rattle.model.specs.Halls.{Hall}
 use Rattle.model.specs.Portals.{portalSector, portalSide, portalWindow, portalMark, portalGraph}
 
--- "cells by column, then row"
+-- a cell's place in that order
 abbrev pub cellRank : FieldCell → ℕ
 cellRank c = c .column * 10 + c .row
 
--- "`PortalNode` order (sector, first cell, last cell, boundary N, E, S, W)", as a number
+-- "`PortalNode` order (sector, first cell, last cell, boundary N, E, S, W; cells by column, then row)", as a number
 unfoldable pub nodeRank : Hall → ℕ → ℕ
 nodeRank h p =
-    ((portalSector p * 100 + cellRank (borderCell (portalSide p) (firstPlace (portalMark h p) (portalWindow p)))) * 100
-    + cellRank (borderCell (portalSide p) (lastPlace (portalMark h p) (portalWindow p)))) * 4 + sideNumber (portalSide p)
+    let first = borderCell (portalSide p) (firstPlace (portalMark h p) (portalWindow p)) in
+    let last = borderCell (portalSide p) (lastPlace (portalMark h p) (portalWindow p)) in
+    ((portalSector p * 100 + cellRank first) * 100 + cellRank last) * 4 + sideNumber (portalSide p)
 
--- "none": more than any key
+-- stands for no path: more than any key
 abbrev pub unlinked : ℕ
 unlinked = 4294967295
 
--- the least key of a path to portal e from each portal. A key is 4,096 × cost + edges: least cost, then "fewest edges"
+-- the least key of a path to portal e from each portal. A key is 4,096 × cost + edges, and a least path has fewer than 2,000 edges: least cost, then "fewest edges"
 unfoldable pub keysTo : Graph → ℕ → List ℕ
 keysTo g e = least-costs (turned g) e unlinked
 

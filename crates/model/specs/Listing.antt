@@ -15,10 +15,11 @@ use Rattle.model.specs.Route.{Found, none, route, routeOf}
 use Rattle.model.specs.Store.{measuresAt, entryCount, baseIn, decode, encode}
 use Rattle.model.specs.Calls.{readNumber, built, checkNumber, foundNumber, orElse}
 
--- the bytes of a text of ASCII, and of a number in decimal
+-- the bytes of a text of ASCII
 abbrev pub text : String → List ℕ
 text s = tabulate (λ i. code (charAt s i)) (len s) 0
 
+-- a number in decimal; `most` bounds its digits
 unfoldable pub digits : ℕ → ℕ → List ℕ
 digits zero n = []
 digits (suc most) n = elim (ltb n 10) [ true ↦ (48 + n) ∷ [] | false ↦ digits most (n / 10) ++ ((48 + n % 10) ∷ []) ]

@@ -15,13 +15,13 @@ fone = fin false 1 (pos 0)
 abbrev pub ften : Float
 ften = fin false 5 (pos 1)
 
--- "cut down" to a whole number: 0 for a NaN and below 0, 2 ^ 32 - 1 at infinity
+-- "cut down" to a whole number; 0 for a NaN and below 0, and at infinity a number above every limit that is asked
 unfoldable pub cutDown : Float → ℕ
 cutDown nan = 0
 cutDown (inf s) = cond s 0 (2 ^ 32 - 1)
 cutDown (fin s m e) = cond s 0 (m * up e / down e)
 
--- "rounded up" to a whole number, with the same ends
+-- "rounded up" to a whole number; a NaN, what is below 0 and infinity likewise
 unfoldable pub roundUp : Float → ℕ
 roundUp nan = 0
 roundUp (inf s) = cond s 0 (2 ^ 32 - 1)

@@ -11,7 +11,7 @@ use Rattle.model.specs.Cells.{sideAt, beside}
 use Rattle.model.specs.Costs.{openAt}
 use Rattle.model.specs.Sectors.{sectorOf, placeOf, costsOf}
 
--- "Moves inside a sector go between open side neighbours at 1 each": 1 where a move leads from cell i to cell j, else 0
+-- "Moves inside a sector go between open side neighbours at 1 each": for j beside i, 1 where j is in the sector and both are open, else 0
 unfoldable pub move : List ℕ → ℕ → ℕ → ℕ
 move costs i j = pick (ltb j 100 && (openAt costs i && openAt costs j)) 1 0
 
@@ -25,7 +25,7 @@ moveGraph costs = record {
   weight = λ e. move costs (e / 4) (beside (e / 4) (sideAt (e % 4)));
 }
 
--- "none": more than any count of moves
+-- stands for no moves: more than any count of moves inside a sector
 abbrev pub apart : ℕ
 apart = 255
 

@@ -53,7 +53,7 @@ key w = 4096 * w + 1
 unfoldable pub outerEdge : Hall → ℕ → ℕ
 outerEdge h p = pick (hasBeyond (h .measures) (portalSector p) (portalSide p) && isPortal h (facing h p)) (key 1) 0
 
--- "Two portals of a sector whose midpoints are joined inside it have an edge, weight the fewest moves": `from` holds the moves from one midpoint
+-- "Two portals of a sector whose midpoints are joined inside it have an edge, weight the fewest moves (0 if equal)": `from` holds the moves from one midpoint to each of the 100 cells
 unfoldable pub innerEdge : Hall → List ℕ → ℕ → ℕ
 innerEdge h from q = pick (isPortal h q && ltb (getD from (midpoint h q) 0) apart) (key (getD from (midpoint h q) 0)) 0
 

@@ -24,14 +24,14 @@ starts h source = passing (λ p. isPortal h p && joined (h .scaled) source (midC
 unfoldable pub ends : Hall → ℕ → List ℕ
 ends h goal = passing (λ p. isPortal h p && joined (h .scaled) (midCell h p) goal) 20 (sectorOf goal * 20)
 
--- an end portal, with the keys of the least paths to it, and "moves from the end midpoint to the goal"
+-- an end portal, with the keys of the least paths to it from each portal, and "moves from the end midpoint to the goal"
 pub record End : Type 0 where
   pub portal : ℕ
   pub keys : List ℕ
-  pub tail : ℕ
+  pub lastMoves : ℕ
 
 unfoldable pub endOf : Hall → Graph → ℕ → ℕ → End
-endOf h g goal e = record { portal = e; keys = keysTo g e; tail = movesTo (h .scaled) (midCell h e) goal }
+endOf h g goal e = record { portal = e; keys = keysTo g e; lastMoves = movesTo (h .scaled) (midCell h e) goal }
 
 -- a pair of a start and an end that some portal path joins
 pub record Pair : Type 0 where
@@ -43,11 +43,15 @@ linkedPair p e = pick (ltb (getD (e .keys) p 0) unlinked) (record { start = p; e
 
 -- "Run = portal path cost + moves from the end midpoint to the goal"
 unfoldable pub runOf : Pair → ℕ
-runOf z = costOfKey (getD (z .end .keys) (z .start) 0) + z .end .tail
+runOf z = costOfKey (getD (z .end .keys) (z .start) 0) + z .end .lastMoves
 
--- "Pairs go start by start; a later pair wins only if its run is less"
+-- "Pairs go start by start", and for each start end by end
+unfoldable pub routePairs : Hall → Graph → ℕ → ℕ → List Pair
+routePairs h g source goal = pairs linkedPair (starts h source) (map (endOf h g goal) (ends h goal))
+
+-- "a later pair wins only if its run is less"
 unfoldable pub chosenPair : Hall → Graph → ℕ → ℕ → Best Pair
-chosenPair h g source goal = winner runOf nothing (pairs linkedPair (starts h source) (map (endOf h g goal) (ends h goal)))
+chosenPair h g source goal = winner runOf nothing (routePairs h g source goal)
 
 -- the step at a portal: its midpoint and its window
 unfoldable pub stepAt : Hall → ℕ → RouteStep

@@ -2,15 +2,11 @@
 use Prim.Native.Nat.{ℕ}
 use mathlib.Core.Path.{_≡_}
 use mathlib.Core.Logic.{_↔_}
-use mathlib.Core.List.{List, [], map}
+use mathlib.Core.List.{List, []}
 use Rattle.laws.specs.Graph.{Graph}
-use Rattle.laws.specs.Choice.{Best, nothing, best, pairs, Leads, winner-first, winner-none}
+use Rattle.laws.specs.Choice.{Best, nothing, best, Leads, winner-first, winner-none}
 use Rattle.model.specs.Halls.{Hall}
-use Rattle.model.specs.Route.{Pair, starts, ends, endOf, linkedPair, runOf, chosenPair}
-
--- the pairs in their order: start by start, and for each start end by end
-abbrev pub routePairs : Hall → Graph → ℕ → ℕ → List Pair
-routePairs h g source goal = pairs linkedPair (starts h source) (map (endOf h g goal) (ends h goal))
+use Rattle.model.specs.Route.{Pair, runOf, routePairs, chosenPair}
 
 pub chosen-leads : (h : Hall) (g : Graph) (source goal : ℕ) {z : Pair} → chosenPair h g source goal ≡ best z → Leads runOf z (routePairs h g source goal)
 unfolding chosenPair

@@ -26,10 +26,11 @@ passes m xs s i d = first (λ k. isWall m xs s (landing i d (k + 1))) (m .scale)
 unfoldable pub blockStep : ℕ → ℕ → CompassDir → ℕ → List ℕ → List ℕ
 blockStep s i d k xs = set xs (floorNumber s (landing i d (k + 1) .index)) 255
 
--- "Only if it stops so do the cells passed become 255"
+-- "Only if it stops so do the cells passed become 255": n of them, fewer than scale where the walk met a wall
 unfoldable pub blockPassed : Measures → ℕ → ℕ → CompassDir → ℕ → List ℕ → List ℕ
 blockPassed m s i d n xs = pick (ltb n (m .scale)) (run (blockStep s i d) n xs) xs
 
+-- the walk in direction k of the order
 unfoldable pub walk : Measures → ℕ → ℕ → ℕ → List ℕ → List ℕ
 walk m s i k xs = blockPassed m s i (compass k) (passes m xs s i (compass k)) xs
 

@@ -43,7 +43,7 @@ encode h = (h .measures .columns ∷ h .measures .rows ∷ h .measures .scale �
 unfoldable pub written : Hall → List ℕ → List ℕ
 written h st = encode h ++ drop (sizeOf (h .measures)) st
 
--- the file: "bytes columns, rows, scale; u16 count; then two parallel arrays, u16 floor numbers and byte costs"
+-- the file: "bytes columns, rows, scale; u16 count, low byte first; then two parallel arrays, u16 floor numbers and byte costs"
 abbrev pub entryCount : List ℕ → ℕ
 entryCount file = u16At file 3
 

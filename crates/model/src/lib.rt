@@ -1,4 +1,4 @@
-// The structs and enums of the calls. What they mean is defined in specs/, one file for each item of document 01.
+// The structs and enums of the calls. What they mean is defined in specs/, file by file in the order of document 01.
 
 // Item 1: a cell of a sector, column and row 0 to 9.
 pub struct FieldCell {
@@ -19,7 +19,7 @@ pub struct Measures {
     pub scale: u8,
 }
 
-// Item 4: a step has a sector, a goal index and a window or none. Side 0 to 3 is N, E, S, W; side 4 says that there is no window.
+// Item 4: a step has a sector, a goal index and a window or none. Side 0 to 3 is N, E, S, W; side 4 says that there is no window, and then first and last are 0.
 pub struct RouteStep {
     pub column: u8,
     pub row: u8,

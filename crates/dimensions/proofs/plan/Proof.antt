@@ -2,7 +2,7 @@
 use lib.Ieee.{ofBits}
 use borrow.Author.Needs.{needs}
 use Rattle.laws.specs.Ladder.{ladder}
-use Rattle.model.specs.Calls.{hallNumber, planNumber, planAnswer}
+use Rattle.model.specs.Calls.{measureNumber, planNumber, planAnswer}
 use Rattle.dimensions.proofs.Rungs.{rungs}
 use Rattle.dimensions.proofs.plan.Statement.{statement}
 use Rattle.dimensions.proofs.plan.Tie as tie
@@ -11,26 +11,26 @@ value-number-requires : tie.Need-value-number-requires
 value-number-requires c κs = search needs
 
 returns : tie.Need-returns
-unfolding planAnswer planNumber hallNumber ofBits
+unfolding planAnswer planNumber measureNumber ofBits
 returns c = search (ladder, rungs) depth 9
 
 returns-2 : tie.Need-returns-2
-unfolding planAnswer planNumber hallNumber ofBits
+unfolding planAnswer planNumber measureNumber ofBits
 returns-2 c = search (ladder, rungs) depth 9
 
 returns-3 : tie.Need-returns-3
-unfolding planAnswer planNumber hallNumber ofBits
+unfolding planAnswer planNumber measureNumber ofBits
 returns-3 c = search (ladder, rungs) depth 9
 
 whole-near-requires : tie.Need-whole-near-requires
 whole-near-requires c κs = search needs
 
 returns-4 : tie.Need-returns-4
-unfolding planAnswer planNumber hallNumber ofBits
+unfolding planAnswer planNumber measureNumber ofBits
 returns-4 c = search (ladder, rungs) depth 9
 
 returns-5 : tie.Need-returns-5
-unfolding planAnswer planNumber hallNumber ofBits
+unfolding planAnswer planNumber measureNumber ofBits
 returns-5 c = search (ladder, rungs) depth 9
 
 whole-near-requires-2 : tie.Need-whole-near-requires-2
@@ -40,11 +40,11 @@ whole-near-requires-3 : tie.Need-whole-near-requires-3
 whole-near-requires-3 c κs = search needs
 
 returns-6 : tie.Need-returns-6
-unfolding planAnswer planNumber hallNumber ofBits
+unfolding planAnswer planNumber measureNumber ofBits
 returns-6 c = search (ladder, rungs) depth 9
 
 returns-7 : tie.Need-returns-7
-unfolding planAnswer planNumber hallNumber ofBits
+unfolding planAnswer planNumber measureNumber ofBits
 returns-7 c = search (ladder, rungs) depth 9
 
 pub plan-spec : {M : Type 1} → statement M
