@@ -9,3 +9,4 @@ pub mod ChangeAtOne
 pub mod StoreAfter
 pub mod Walks
 pub mod Demand3
+pub mod Worked

@@ -1,0 +1,61 @@
+-- Demand 3 at work: halls, lists of calls and pairs that meet its premises, and floors on which its bound is met exactly.
+use Prim.Native.Nat.{ℕ, _+_, _*_, _/_, _%_, _≤_}
+use native.Mathlib.Omega.{arith}
+use mathlib.Core.Path.{_≡_, refl}
+use mathlib.Core.Logic.{_≢_, inl, inr}
+use mathlib.Core.Bool.{Bool, true, false, _&&_, not}
+use mathlib.Core.List.{List, [], _∷_}
+use lib.Dec.{leb, ltb, eqb}
+use lib.ListN.{replicate}
+use Rattle.laws.specs.Search.{passing}
+use Rattle.model.specs.declared.Measures.{Measures}
+use Rattle.model.specs.declared.Routed.the-variants.{Route, NoRoute}
+use Rattle.model.specs.Sectors.{cells}
+use Rattle.model.specs.Moves.{joined}
+use Rattle.model.specs.Account.{Call, change, route, accountAfter, accountCosts, Walk}
+use Rattle.model.specs.Store.{sizeOf}
+use Rattle.model.specs.Calls.{buildNumber, buildInto, routeAnswer, storeAfter}
+use Rattle.model.specs.Computing.{computing}
+use Rattle.audit.specs.Starred.{hall, floor}
+use Rattle.audit.specs.Demand3.{opening, ChangesOnlyAtScale1, Claim, demand-3}
+
+-- ---- 2 by 1, all open, then three calls: one change, one that is refused, and a route call
+abbrev base : List ℕ
+base = floor (hall 2 1 1) []
+
+abbrev lent : List ℕ
+lent = replicate (sizeOf (hall 2 1 1)) 0
+
+abbrev list : List Call
+list = change 0 255 ∷ change 200 1 ∷ route 5 7 1 ∷ []
+
+-- the premises hold, so the theorem speaks of 99 to 190
+claims : Claim (accountAfter (opening (hall 2 1 1) base) list) (storeAfter (buildInto (hall 2 1 1) base lent) list) 99 190 1001
+unfolding computing
+claims = demand-3 (hall 2 1 1) base lent refl list (λ before n cost rest e k. refl) 99 190 1001 (λ e. omega arith) refl (omega arith)
+
+-- the route given, and a walk of one move over one border
+given : routeAnswer (storeAfter (buildInto (hall 2 1 1) base lent) list) 99 190 1001 ≡ Route 2 5 6
+unfolding computing
+given = refl
+
+walk : Walk (accountAfter (opening (hall 2 1 1) base) list) 99 190 1 1
+unfolding computing
+walk = record { next = 190 ∷ []; goes = (omega arith, refl, inr (refl, inl refl), (omega arith, refl, refl)); moves = refl; crossed = refl }
+
+-- run + 5 is n + 10 × k: the bound is met exactly
+met : 6 + 5 ≤ 1 + 10 * 1
+met = claims .at-most 2 5 6 given 1 1 walk
+
+-- ---- the bound is sharp for more borders: 3 by 1, the insides walled except row 9, the border columns open
+abbrev walled : List ℕ
+walled = passing (λ n. ltb (n % 100) 90 && (ltb 0 (n % 10) && ltb (n % 10) 9)) 300 0
+
+-- from (9, 9) of the first sector to (0, 9) of the last: 11 moves along row 9 over 2 borders, and run 26 = 11 + 10 × 2 - 5
+sharp : routeAnswer (buildInto (hall 3 1 1) (floor (hall 3 1 1) walled) (replicate (sizeOf (hall 3 1 1)) 0)) 99 290 1001 ≡ Route 3 5 26
+unfolding computing
+sharp = refl
+
+along-row-9 : Walk (opening (hall 3 1 1) (floor (hall 3 1 1) walled)) 99 290 11 2
+unfolding computing
+along-row-9 = record { next = 190 ∷ 191 ∷ 192 ∷ 193 ∷ 194 ∷ 195 ∷ 196 ∷ 197 ∷ 198 ∷ 199 ∷ 290 ∷ []; goes = (omega arith, refl, inr (refl, inl refl), (omega arith, refl, inr (refl, inl refl), (omega arith, refl, inr (refl, inl refl), (omega arith, refl, inr (refl, inl refl), (omega arith, refl, inr (refl, inl refl), (omega arith, refl, inr (refl, inl refl), (omega arith, refl, inr (refl, inl refl), (omega arith, refl, inr (refl, inl refl), (omega arith, refl, inr (refl, inl refl), (omega arith, refl, inr (refl, inl refl), (omega arith, refl, inr (refl, inl refl), (omega arith, refl, refl)))))))))))); moves = refl; crossed = refl }
