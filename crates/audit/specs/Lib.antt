@@ -1,4 +1,5 @@
 pub mod Starred
+pub mod Further
 pub mod Borders
 pub mod Crossings
 pub mod SectorMoves

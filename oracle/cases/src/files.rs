@@ -14,7 +14,7 @@ pub fn file(hall: &Hall, draw: &mut Draw) -> Vec<u8> {
     for i in (1..named.len()).rev() {
         named.swap(i, draw.below(i + 1));
     }
-    let room = (10_000 - named.len()).min(20);
+    let room = ((10_000 - named.len()) / 2).min(20);
     let mut entries = vec![];
     for _ in 0..draw.below(room + 1) {
         let cell = draw.below(hall.floor.costs.len());
@@ -27,7 +27,6 @@ pub fn file(hall: &Hall, draw: &mut Draw) -> Vec<u8> {
     let restored: Vec<(usize, u8)> = replaced.map(|cell| (cell, 1)).collect();
     entries.extend(restored);
     entries.extend(named);
-    entries.truncate(10_000);
     encode(hall.measures(), &entries)
 }
 

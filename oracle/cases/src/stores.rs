@@ -30,7 +30,7 @@ pub fn store(seed: u64, case: u64) -> (Vec<u8>, Floor) {
 }
 
 /// Whether a sector has a neighbour N, E, S, W.
-pub fn neighbours(floor: &Floor, sector: usize) -> [bool; 4] {
+fn neighbours(floor: &Floor, sector: usize) -> [bool; 4] {
     let (column, row) = (sector / floor.rows, sector % floor.rows);
     [
         row > 0,

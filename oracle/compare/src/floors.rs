@@ -12,7 +12,7 @@ use crate::text;
 type Floor = ([u8; 3], &'static [usize]);
 
 /// What is asked of a floor, and the answer that is written down.
-pub enum Asked {
+enum Asked {
     /// Sizes, unit and radius: number, columns, rows, scale.
     Plan([f32; 4], [u8; 4]),
     /// The cells that scaling adds.
@@ -27,7 +27,7 @@ pub enum Asked {
 
 use Asked::{Change, Plan, Route, Scaled, Windows};
 
-pub const FLOORS: [Asked; 23] = [
+const FLOORS: [Asked; 23] = [
     Plan([20.0, 10.0, 1.0, 1.0], [0, 2, 1, 1]),
     Plan([20.0, 10.0, 1.0, 9.0], [0, 2, 1, 9]),
     Plan([20.0, 10.0, 1.0, 9.5], [7, 0, 0, 0]),

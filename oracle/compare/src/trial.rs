@@ -153,7 +153,7 @@ impl Trial<'_> {
     }
 }
 
-pub fn first_difference(owed: &[u8], given: &[u8]) -> Option<usize> {
+fn first_difference(owed: &[u8], given: &[u8]) -> Option<usize> {
     if owed.len() != given.len() {
         return Some(owed.len().min(given.len()));
     }

@@ -1,0 +1,97 @@
+-- Further floors beside those of 01, each of which tells a definition from a wrong one that all starred floors would let pass. Each entry is proved by computation.
+use Prim.Native.Nat.{ℕ}
+use mathlib.Core.Path.{_≡_, refl}
+use mathlib.Core.List.{List, [], _∷_, _++_}
+use lib.ListN.{getD, set}
+use Rattle.model.specs.declared.Routed.the-variants.{Route}
+use Rattle.model.specs.Calls.{changeNumber, changeInto, routeAnswer}
+use Rattle.model.specs.Listing.{text, hallroute}
+use Rattle.model.specs.Computing.{computing}
+use Rattle.audit.specs.Starred.{hall, floor, scaled, store, file, pair}
+
+-- blocked cells that leave two paths of equal cost and equal edges, of which `PortalNode` order and the order of cell indices prefer different ones
+abbrev tied : List ℕ
+tied = 8 ∷ 19 ∷ 140 ∷ 151 ∷ 157 ∷ 158 ∷ 159 ∷ 162 ∷ 165 ∷ 166 ∷ 173 ∷ 174 ∷ 270 ∷ 271 ∷ []
+
+-- ---- scaling and changes
+pub record ScalingFloors : Type 0 where
+  -- the order of directions: N before S, and E before W
+  pub north-before-south : scaled (hall 1 2 6) (60 ∷ 110 ∷ []) ≡ floor (hall 1 2 6) (0 ∷ 60 ∷ 70 ∷ 80 ∷ 90 ∷ 100 ∷ 110 ∷ [])
+  pub east-before-west : scaled (hall 2 1 6) (16 ∷ 102 ∷ []) ≡ floor (hall 2 1 6) (5 ∷ 6 ∷ 7 ∷ 16 ∷ 100 ∷ 101 ∷ 102 ∷ 108 ∷ 109 ∷ [])
+  -- the order of cells, and walks that read current scaled costs from base-blocked cells
+  pub cells-by-index : scaled (hall 1 1 2) (8 ∷ 37 ∷ []) ≡ floor (hall 1 1 2) (8 ∷ 9 ∷ 19 ∷ 28 ∷ 37 ∷ [])
+  -- the order of sectors
+  pub sectors-by-number : scaled (hall 2 1 2) (88 ∷ 167 ∷ 170 ∷ []) ≡ floor (hall 2 1 2) (88 ∷ 97 ∷ 98 ∷ 99 ∷ 167 ∷ 170 ∷ 189 ∷ [])
+  -- a change to the same cost rescales in the order of a change: scaled cost 109 becomes 255
+  pub same-cost : changeInto (store (hall 2 1 2) (8 ∷ 100 ∷ [])) 100 255 ≡ set (store (hall 2 1 2) (8 ∷ 100 ∷ [])) 313 255
+  -- a sector that is not surrounding keeps its mark, stale or not, and a mark that only differs is no 22
+  pub accepted-stale : changeNumber (store (hall 3 1 2) (100 ∷ [])) 17 255 ≡ 0
+  pub stale-mark : getD (changeInto (store (hall 3 1 2) (100 ∷ [])) 17 255) 626 0 ≡ 255
+
+pub scaling : ScalingFloors
+unfolding computing
+scaling = record {
+  north-before-south = refl;
+  east-before-west = refl;
+  cells-by-index = refl;
+  sectors-by-number = refl;
+  same-cost = refl;
+  accepted-stale = refl;
+  stale-mark = refl;
+}
+
+-- ---- the choice of a pair, and what is listed of its path
+pub record RouteFloors : Type 0 where
+  -- "other costs weigh nothing": a cell of cost 2 is one move
+  pub costs-weigh-nothing : hallroute (1 ∷ 1 ∷ 1 ∷ 1 ∷ 0 ∷ 1 ∷ 0 ∷ 2 ∷ pair 0 1) ≡ text "0 1 1 0 1 0,0:1-\n"
+  -- the leg is "not counted in the choice"
+  pub leg-not-counted : hallroute (file (hall 2 1 1) (19 ∷ []) ++ pair 70 121) ≡ text "70 121 2 16 4 0,0:9E9-9 1,0:21-\n"
+  -- "a later pair wins only if its run is less"
+  pub earlier-of-equals : hallroute (file (hall 2 1 1) (29 ∷ []) ++ pair 40 137) ≡ text "40 137 2 13 11 0,0:9E9-19 1,0:37-\n"
+  -- "position 0, each even position, and the last"
+  pub even-positions : hallroute (file (hall 2 1 1) (8 ∷ 19 ∷ []) ++ pair 51 100) ≡ text "51 100 2 8 6 0,0:59E29-99 1,0:0-\n"
+  -- in a lent store facing windows pair by number, not by place
+  pub paired-by-number : routeAnswer (set (store (hall 2 1 1) []) 418 254) 0 100 1001 ≡ Route 2 13 6
+
+pub routes : RouteFloors
+unfolding computing
+routes = record {
+  costs-weigh-nothing = refl;
+  leg-not-counted = refl;
+  earlier-of-equals = refl;
+  even-positions = refl;
+  paired-by-number = refl;
+}
+
+-- ---- a shared corner
+pub record CornerFloors : Type 0 where
+  -- two windows on one corner cell have an edge of weight 0
+  pub shared-corner : hallroute (file (hall 2 2 1) (89 ∷ 98 ∷ []) ++ pair 250 113) ≡ text "250 113 3 4 9 1,0:90W90-90 0,0:99S99-99 0,1:13-\n"
+
+pub corners : CornerFloors
+unfolding computing
+corners = record {
+  shared-corner = refl;
+}
+
+-- ---- ties among paths
+pub record PathFloors : Type 0 where
+  -- "fewest edges" comes before `PortalNode` order
+  pub fewest-edges : hallroute (file (hall 3 1 1) (29 ∷ 79 ∷ []) ++ pair 273 89) ≡ text "273 89 3 6 15 2,0:40W0-90 1,0:80W80-90 0,0:89-\n"
+
+pub paths : PathFloors
+unfolding computing
+paths = record {
+  fewest-edges = refl;
+}
+
+-- ---- ties
+pub record TieFloors : Type 0 where
+  -- a tie by `PortalNode` order, not by cell index nor by list order
+  pub by-node-order : hallroute (file (hall 3 1 1) tied ++ pair 9 280) ≡ text "9 280 5 0 21 0,0:9E9-9 1,0:20W20-30 0,0:79E59-99 1,0:89E89-99 2,0:80-\n"
+
+pub ties : TieFloors
+unfolding computing
+ties = record {
+  by-node-order = refl;
+}

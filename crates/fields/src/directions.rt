@@ -1,0 +1,111 @@
+// The eight directions, and where steps land.
+ghost use mathlib.Core.Path.{_≡_};
+ghost use Prim.Native.Nat.{_+_, _≤_, _<_};
+ghost use Rattle.model.specs.Directions.{compass, eastward, southward, stepped, landing, shifted, onAxis, onFloor};
+use crate::numbers::byte;
+use crate::numbers::less;
+use crate::numbers::wide;
+use model::CompassDir;
+use model::Landing;
+use model::Measures;
+
+// The directions by number: N, E, S, W, NE, SE, SW, NW.
+pub fn compass(k: usize) -> CompassDir
+    ensures { λ r. ⌜ r ≡ compass k ⌝ }
+{
+    match k {
+        0 => CompassDir::North,
+        1 => CompassDir::East,
+        2 => CompassDir::South,
+        3 => CompassDir::West,
+        4 => CompassDir::NorthEast,
+        5 => CompassDir::SouthEast,
+        6 => CompassDir::SouthWest,
+        _ => CompassDir::NorthWest,
+    }
+}
+
+// What one step does to the column, plus one.
+pub fn eastward(d: CompassDir) -> usize
+    ensures { λ r. ⌜ r ≡ eastward d ⌝ }
+{
+    match d {
+        CompassDir::North => 1,
+        CompassDir::East => 2,
+        CompassDir::South => 1,
+        CompassDir::West => 0,
+        CompassDir::NorthEast => 2,
+        CompassDir::SouthEast => 2,
+        CompassDir::SouthWest => 0,
+        CompassDir::NorthWest => 0,
+    }
+}
+
+// What one step does to the row, plus one.
+pub fn southward(d: CompassDir) -> usize
+    ensures { λ r. ⌜ r ≡ southward d ⌝ }
+{
+    match d {
+        CompassDir::North => 0,
+        CompassDir::East => 1,
+        CompassDir::South => 2,
+        CompassDir::West => 1,
+        CompassDir::NorthEast => 0,
+        CompassDir::SouthEast => 2,
+        CompassDir::SouthWest => 2,
+        CompassDir::NorthWest => 0,
+    }
+}
+
+// Ten more than the place on an axis that n steps from place c lead to.
+fn stepped(c: usize, e: usize, n: usize) -> usize
+    requires { ⌜ (c ≤ 9) × (e ≤ 2) × (n ≤ 9) ⌝ }
+    ensures { λ r. ⌜ (r ≡ stepped c e n) × (r < 30) ⌝ }
+{
+    c + 10 + n * e - n
+}
+
+// Where n steps from cell i lead: the index there, and how far the sector is on each axis, plus one.
+pub fn landing(i: usize, d: CompassDir, n: usize) -> Landing
+    requires { ⌜ (i < 100) × (n ≤ 9) ⌝ }
+    ensures { λ r. ⌜ r ≡ landing i d n ⌝ }
+{
+    let x = stepped(i % 10, eastward(d), n);
+    let y = stepped(i / 10, southward(d), n);
+    Landing {
+        index: byte(y % 10 * 10 + x % 10),
+        east: byte(x / 10),
+        south: byte(y / 10),
+    }
+}
+
+// Whether place n - 1 lies on an axis so many places wide.
+fn on_axis(n: usize, wide: usize) -> bool
+    ensures { λ r. ⌜ r ≡ onAxis n wide ⌝ }
+{
+    if n < 1 {
+        return false;
+    }
+    n <= wide
+}
+
+// Whether a shift leads from sector s to a sector of the floor.
+pub fn on_floor(m: Measures, s: usize, east: usize, south: usize) -> bool
+    requires { ⌜ (1 ≤ m .rows) × (s ≤ 10000) × (east ≤ 2) × (south ≤ 2) ⌝ }
+    ensures { λ r. ⌜ r ≡ onFloor m s east south ⌝ }
+{
+    let rows = wide(m.rows);
+    if on_axis(s / rows + east, wide(m.columns)) {
+        return on_axis(s % rows + south, rows);
+    }
+    false
+}
+
+// The number of the sector to which a shift leads from sector s.
+pub fn shifted(m: Measures, s: usize, east: usize, south: usize) -> usize
+    requires { ⌜ (1 ≤ m .rows) × (s ≤ 10000) × (east ≤ 2) × (south ≤ 2) ⌝ }
+    ensures { λ r. ⌜ r ≡ shifted m s east south ⌝ }
+{
+    let rows = wide(m.rows);
+    less(s / rows + east, 1) * rows + less(s % rows + south, 1)
+}

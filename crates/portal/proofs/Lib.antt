@@ -1,0 +1,4 @@
+pub mod Sides
+pub mod AllMarks
+pub mod Places
+pub mod Entries

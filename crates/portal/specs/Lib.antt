@@ -1,0 +1,4 @@
+pub mod Border
+pub mod Runs
+pub mod Marks
+pub mod Listing

@@ -1,0 +1,5 @@
+// Borders of a sector, marks of its sides and windows of a mark: document 01, item 8, first part.
+pub mod border;
+pub mod listing;
+pub mod marks;
+pub mod runs;

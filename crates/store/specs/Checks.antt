@@ -1,0 +1,180 @@
+-- What the checks of a store and of a file show, once they are passed.
+use mathlib.Core.Path.{_≡_, refl, sym, ap, _∙_}
+use mathlib.Core.Bool.{Bool, true, false, not, _||_}
+use mathlib.Core.List.{List}
+use Prim.Native.Nat.{ℕ, zero, suc, _+_, _*_, _/_, _%_, _≤_, _<_}
+use native.Mathlib.Nat.{mul-le-mul}
+use native.Mathlib.Omega.{arith}
+use lib.Dec.{ltb, eqb}
+use lib.ListN.{length, getD, replicate}
+use borrow.Author.Tests.{ltb-false, leb-false, eqb-true, not-false}
+use Rattle.laws.specs.Fold.{pick, false-ne-true, run}
+use Rattle.laws.specs.Search.{any, any-none}
+use Rattle.laws.specs.Ladder.{passed}
+use Rattle.model.specs.declared.Measures.{Measures}
+use Rattle.model.specs.declared.Measured.{Measured}
+use Rattle.model.specs.declared.Measured.the-variants.{Accepted, Refused}
+use Rattle.model.specs.Cells.{sideAt}
+use Rattle.model.specs.Sectors.{sectors, cells, hasBeyond}
+use Rattle.model.specs.Store.{measuresAt, sizeOf, marksIn, entryCount, entryNumber, putEntry, baseIn}
+use Rattle.model.specs.Calls.{outside, badSectors, badScale, badMark, checkNumber, entryOff, readNumber, readAnswer, readInto, measured, ifAccepted}
+
+-- ---- measures
+pub record Sized (m : Measures) : Type 0 where
+  pub some-columns : 1 ≤ m .columns
+  pub few-columns : m .columns ≤ 10
+  pub some-rows : 1 ≤ m .rows
+  pub few-rows : m .rows ≤ 10
+
+neither : (a b : Bool) → (a || b) ≡ false → (a ≡ false) × (b ≡ false)
+neither true b e = absurd (false-ne-true (sym e))
+neither false b e = (refl, e)
+
+inside : (low high n : ℕ) → outside low high n ≡ false → (low ≤ n) × (n ≤ high)
+inside low high n e =
+    let t = neither (ltb n low) (ltb high n) e in
+    (ltb-false n low (t .0), ltb-false high n (t .1))
+
+pub sized : (m : Measures) → badSectors m ≡ false → Sized m
+unfolding badSectors
+sized m e =
+    let t = neither (outside 1 10 (m .columns)) (outside 1 10 (m .rows)) e in
+    let a = inside 1 10 (m .columns) (t .0) in
+    let b = inside 1 10 (m .rows) (t .1) in
+    record { some-columns = a .0; few-columns = a .1; some-rows = b .0; few-rows = b .1 }
+
+pub scaled-well : (m : Measures) → badScale m ≡ false → (1 ≤ m .scale) × (m .scale ≤ 9)
+unfolding badScale
+scaled-well m e = inside 1 9 (m .scale) e
+
+pub few-sectors : {m : Measures} → Sized m → sectors m ≤ 100
+few-sectors h = mul-le-mul (h .few-columns) (h .few-rows)
+
+-- What a test found of measures that were read from bytes: for the search at each return of a ladder.
+module _ (bytes : List ℕ) (m : Measures) (read : m ≡ measuresAt bytes) (r t : Bool) where
+  found : (f : Measures → Bool) → r ≡ f m → r ≡ t → f (measuresAt bytes) ≡ t
+  found f e h = sym (e ∙ ap f read) ∙ h
+
+  pub sectors-found : r ≡ badSectors m → r ≡ t → badSectors (measuresAt bytes) ≡ t
+  sectors-found = found badSectors
+
+  pub scale-found : r ≡ badScale m → r ≡ t → badScale (measuresAt bytes) ≡ t
+  scale-found = found badScale
+
+  pub size-found : (size : ℕ) → r ≡ not (eqb size (cells m)) → r ≡ t → not (eqb size (cells (measuresAt bytes))) ≡ t
+  size-found size = found (λ n. not (eqb size (cells n)))
+
+  pub room-found : r ≡ ltb (length bytes) (sizeOf m) → r ≡ t → ltb (length bytes) (sizeOf (measuresAt bytes)) ≡ t
+  room-found = found (λ n. ltb (length bytes) (sizeOf n))
+
+  pub marks-found : r ≡ any (badMark m (marksIn m bytes)) (sectors m * 4) → r ≡ t → any (badMark (measuresAt bytes) (marksIn (measuresAt bytes) bytes)) (sectors (measuresAt bytes) * 4) ≡ t
+  marks-found = found (λ n. any (badMark n (marksIn n bytes)) (sectors n * 4))
+
+-- ---- a store
+-- a store that passes
+pub record Checked (st : List ℕ) : Type 0 where
+  pub sides : Sized (measuresAt st)
+  pub some-scale : 1 ≤ measuresAt st .scale
+  pub few-scale : measuresAt st .scale ≤ 9
+  pub fourth : getD st 3 0 ≡ 0
+  pub room : sizeOf (measuresAt st) ≤ length st
+  pub small-marks : (k : ℕ) → k < sectors (measuresAt st) * 4 → getD (marksIn (measuresAt st) st) k 0 ≤ 1023
+  pub no-marks : (k : ℕ) → k < sectors (measuresAt st) * 4 → hasBeyond (measuresAt st) (k / 4) (sideAt (k % 4)) ≡ false → getD (marksIn (measuresAt st) st) k 0 ≡ 0
+
+-- a mark that is not refused
+mark-small : (b : Bool) (n : ℕ) → pick b (ltb 1023 n) (ltb 0 n) ≡ false → n ≤ 1023
+mark-small true n e = ltb-false 1023 n e
+mark-small false n e = omega (arith, ltb-false 0 n e)
+
+mark-none : (b : Bool) (n : ℕ) → b ≡ false → pick b (ltb 1023 n) (ltb 0 n) ≡ false → n ≡ 0
+mark-none true n h e = absurd (false-ne-true (sym h))
+mark-none false n h e = omega (arith, ltb-false 0 n e)
+
+pub checked : (st : List ℕ) → checkNumber st ≡ 0 → Checked st
+unfolding checkNumber badMark
+checked st e =
+    let m = measuresAt st in
+    let a = passed _ 17 _ e in
+    let b = passed _ 10 _ (a .1) in
+    let c = passed _ 11 _ (b .1) in
+    let d = passed _ 18 _ (c .1) in
+    let f = passed _ 17 _ (d .1) in
+    let g = passed _ 19 _ (f .1) in
+    let good : (k : ℕ) → k < sectors m * 4 → badMark m (marksIn m st) k ≡ false = λ k h. any-none (badMark m (marksIn m st)) (sectors m * 4) k (g .0) h in
+    record {
+      sides = sized m (b .0);
+      some-scale = scaled-well m (c .0) .0;
+      few-scale = scaled-well m (c .0) .1;
+      fourth = omega (arith, ltb-false 0 (getD st 3 0) (d .0));
+      room = ltb-false (length st) (sizeOf m) (f .0);
+      small-marks = λ k h. mark-small (hasBeyond m (k / 4) (sideAt (k % 4))) (getD (marksIn m st) k 0) (good k h);
+      no-marks = λ k h n. mark-none (hasBeyond m (k / 4) (sideAt (k % 4))) (getD (marksIn m st) k 0) n (good k h);
+    }
+
+-- ---- a file
+-- two numbers that a refusal did not find different
+pub not-different : (a b : ℕ) → not (eqb a b) ≡ false → a ≡ b
+not-different a b e = eqb-true a b (not-false (eqb a b) e)
+
+pub whole-file : (file : List ℕ) (r : Bool) → r ≡ not (eqb (length file) (5 + 3 * entryCount file)) → r ≡ false → 5 + 3 * entryCount file ≤ length file
+whole-file file r e h = omega (arith, not-different (length file) (5 + 3 * entryCount file) (sym e ∙ h))
+
+-- a file that is read
+pub record Readable (file : List ℕ) (size : ℕ) : Type 0 where
+  pub sides : Sized (measuresAt file)
+  pub some-scale : 1 ≤ measuresAt file .scale
+  pub few-scale : measuresAt file .scale ≤ 9
+  pub head : 5 ≤ length file
+  pub whole : length file ≡ 5 + 3 * entryCount file
+  pub on : any (entryOff file) (entryCount file) ≡ false
+  pub room : size ≡ cells (measuresAt file)
+
+pub readable : (file : List ℕ) (size : ℕ) → readNumber file size ≡ 0 → Readable file size
+unfolding readNumber
+readable file size e =
+    let m = measuresAt file in
+    let a = passed _ 9 _ e in
+    let b = passed _ 10 _ (a .1) in
+    let c = passed _ 11 _ (b .1) in
+    let d = passed _ 12 _ (c .1) in
+    let f = passed _ 13 _ (d .1) in
+    let g = passed _ 14 _ (f .1) in
+    let h = passed _ 15 _ (g .1) in
+    record {
+      sides = sized m (b .0);
+      some-scale = scaled-well m (c .0) .0;
+      few-scale = scaled-well m (c .0) .1;
+      head = ltb-false (length file) 5 (a .0);
+      whole = not-different (length file) (5 + 3 * entryCount file) (f .0);
+      on = g .0;
+      room = not-different size (cells m) (h .0);
+    }
+
+-- an entry of a file none of whose floor numbers is too large
+pub entry-on : (file : List ℕ) (n k : ℕ) → any (entryOff file) n ≡ false → k < n → entryNumber file k < cells (measuresAt file)
+unfolding entryOff
+entry-on file n k e h = leb-false (cells (measuresAt file)) (entryNumber file k) (any-none (entryOff file) n k e h)
+
+-- ---- answers
+-- What reading gives, in the shape of a return: a refusal, and a list that was filled and took the entries.
+measured-no : (n : ℕ) (m : Measures) → (n ≡ 0 → ⊥) → Refused n ≡ measured n m
+unfolding measured
+measured-no zero m h = absurd (h refl)
+measured-no (suc n) m h = refl
+
+not-accepted : (n : ℕ) (new old : List ℕ) → (n ≡ 0 → ⊥) → old ≡ ifAccepted n new old
+unfolding ifAccepted
+not-accepted zero new old h = absurd (h refl)
+not-accepted (suc n) new old h = refl
+
+module _ (file list : List ℕ) (r : ℕ) (is : r ≡ readNumber file (length list)) where
+  pub read-refused : (r ≡ 0 → ⊥) → (Refused r ≡ readAnswer file (length list)) × (list ≡ readInto file list)
+  unfolding readAnswer readInto
+  read-refused h = (
+    rw (← is) (measured-no r (measuresAt file) h),
+    rw (← is) (not-accepted r (baseIn file (length list)) list h),
+  )
+
+  pub read-accepted : (m : Measures) (n : ℕ) (ones out : List ℕ) → r ≡ 0 → m ≡ measuresAt file → n ≡ entryCount file → ones ≡ replicate (length list) 1 → out ≡ run (putEntry file n) n ones → (Accepted m ≡ readAnswer file (length list)) × (out ≡ readInto file list)
+  unfolding readAnswer readInto baseIn measured ifAccepted
+  read-accepted m n ones out h em en eo e = (rw (← is, h, em), rw (← is, h, e, en, eo))

@@ -1,0 +1,156 @@
+-- Where the parts of a hall stand in a store, and that a hall written into a store is read back.
+use mathlib.Core.Path.{_≡_, refl, sym, ap, _∙_}
+use mathlib.Core.Bool.{Bool, not}
+use mathlib.Core.List.{List, [], _∷_, _++_, append-assoc}
+use Prim.Native.Nat.{ℕ, zero, suc, _+_, _*_, _/_, _%_, _≤_, _<_}
+use native.Mathlib.Nat.{not-suc-le-zero, le-of-suc-le-suc, add-assoc}
+use native.Mathlib.Numerals.{add-one}
+use native.Mathlib.Omega.{arith}
+use lib.Dec.{eqb}
+use lib.ListN.{length, getD, drop, length-append, length-drop}
+use lib.Seq.{getD-append-add, ext-getD}
+use Rattle.laws.specs.Region.{region, length-region, getD-region, region-at}
+use Rattle.laws.specs.Table.{length-tabulate, tabulate-at}
+use Rattle.model.specs.declared.Measures.{Measures}
+use Rattle.model.specs.Costs.{openAt}
+use Rattle.model.specs.Sectors.{sectors, cells}
+use Rattle.model.specs.Halls.{Hall}
+use Rattle.model.specs.Store.{u16At, measuresAt, sizeOf, marksIn, hallIn, decode, markBytes, encode, written}
+
+-- ---- a hall whose lists are as long as its measures say
+pub record Laid (h : Hall) : Type 0 where
+  pub base-cells : length (h .base) ≡ cells (h .measures)
+  pub scaled-cells : length (h .scaled) ≡ cells (h .measures)
+  pub marks-sides : length (h .marks) ≡ sectors (h .measures) * 4
+
+-- ---- reading
+pub mark-at : (m : Measures) (st : List ℕ) (k : ℕ) → k < sectors m * 4 → getD (marksIn m st) k 0 ≡ u16At st (4 + 2 * cells m + 2 * k)
+unfolding marksIn
+mark-at m st k h = tabulate-at (λ k. u16At st (4 + 2 * cells m + 2 * k)) (sectors m * 4) k 0 h
+
+length-marks : (m : Measures) (st : List ℕ) → length (marksIn m st) ≡ sectors m * 4
+unfolding marksIn
+length-marks m st = length-tabulate (λ k. u16At st (4 + 2 * cells m + 2 * k)) (sectors m * 4) 0
+
+-- a place of a list has one value, whatever stands past its end
+pub getD-default : (l : List ℕ) (i a b : ℕ) → i < length l → getD l i a ≡ getD l i b
+getD-default [] i a b h = absurd (not-suc-le-zero h)
+getD-default (x ∷ l) zero a b h = refl
+getD-default (x ∷ l) (suc i) a b h = getD-default l i a b (le-of-suc-le-suc h)
+
+module _ (st : List ℕ) where
+  pub decode-measures : decode st .measures ≡ measuresAt st
+  unfolding decode
+  decode-measures = refl
+
+  pub base-at : (n : ℕ) → n < cells (measuresAt st) → getD (decode st .base) n 0 ≡ getD st (4 + n) 0
+  unfolding decode
+  base-at n h = getD-region 4 (cells (measuresAt st)) st n h
+
+  pub scaled-at : (n : ℕ) → n < cells (measuresAt st) → getD (decode st .scaled) n 0 ≡ getD st (4 + cells (measuresAt st) + n) 0
+  unfolding decode
+  scaled-at n h = getD-region (4 + cells (measuresAt st)) (cells (measuresAt st)) st n h
+
+  pub marks-at : (k : ℕ) → k < sectors (measuresAt st) * 4 → getD (decode st .marks) k 0 ≡ u16At st (4 + 2 * cells (measuresAt st) + 2 * k)
+  unfolding decode
+  marks-at k h = mark-at (measuresAt st) st k h
+
+  module _ (room : sizeOf (measuresAt st) ≤ length st) where
+    pub decode-laid : Laid (decode st)
+    unfolding decode
+    decode-laid = record {
+      base-cells = length-region 4 (cells (measuresAt st)) st (omega arith);
+      scaled-cells = length-region (4 + cells (measuresAt st)) (cells (measuresAt st)) st (omega arith);
+      marks-sides = length-marks (measuresAt st) st;
+    }
+
+    pub open-base : (n : ℕ) → n < cells (measuresAt st) → openAt (decode st .base) n ≡ not (eqb (getD st (4 + n) 0) 255)
+    unfolding openAt decode
+    open-base n h = ap (λ (x : ℕ). not (eqb x 255)) (getD-default (decode st .base) n 255 0 (rw (decode-laid .base-cells) h) ∙ base-at n h)
+
+    pub open-scaled : (n : ℕ) → n < cells (measuresAt st) → openAt (decode st .scaled) n ≡ not (eqb (getD st (4 + cells (measuresAt st) + n) 0) 255)
+    unfolding openAt decode
+    open-scaled n h = ap (λ (x : ℕ). not (eqb x 255)) (getD-default (decode st .scaled) n 255 0 (rw (decode-laid .scaled-cells) h) ∙ scaled-at n h)
+
+-- ---- writing
+pub length-markBytes : (marks : List ℕ) → length (markBytes marks) ≡ 2 * length marks
+unfolding markBytes
+length-markBytes [] = refl
+length-markBytes (mark ∷ marks) = ap (λ (n : ℕ). suc (suc n)) (length-markBytes marks) ∙ double (length marks)
+  where
+    double : (n : ℕ) → suc (suc (2 * n)) ≡ 2 * suc n
+    double n = omega arith
+
+-- a u16 that stands in front of others
+u16-next : (a b i : ℕ) (xs : List ℕ) → u16At (a ∷ b ∷ xs) (2 * suc i) ≡ u16At xs (2 * i)
+unfolding u16At
+u16-next a b i xs =
+    let e : 2 * suc i ≡ suc (suc (2 * i)) = omega arith in
+    rw (e, add-one, add-one)
+
+-- mark k of the bytes of marks
+u16-marks : (marks rest : List ℕ) (k : ℕ) → k < length marks → u16At (markBytes marks ++ rest) (2 * k) ≡ getD marks k 0
+unfolding markBytes u16At
+u16-marks [] rest k h = absurd (not-suc-le-zero h)
+u16-marks (mark ∷ marks) rest zero h = two mark
+  where
+    two : (n : ℕ) → n % 256 + 256 * (n / 256) ≡ n
+    two n = omega arith
+u16-marks (mark ∷ marks) rest (suc k) h = u16-next (mark % 256) (mark / 256) k (markBytes marks ++ rest) ∙ u16-marks marks rest k (le-of-suc-le-suc h)
+
+-- behind other bytes
+u16-past : (p q : List ℕ) (a i : ℕ) → length p ≡ a → u16At (p ++ q) (a + i) ≡ u16At q i
+unfolding u16At
+u16-past p q a i e = rw (← e, add-assoc (length p) i 1, getD-append-add p q i 0, getD-append-add p q (i + 1) 0)
+
+module _ (h : Hall) (laid : Laid h) where
+  pub length-encode : length (encode h) ≡ sizeOf (h .measures)
+  unfolding encode
+  length-encode = simp (length-append, length-markBytes, laid .base-cells, laid .scaled-cells, laid .marks-sides) (omega arith)
+
+  module _ (st : List ℕ) where
+    pub length-written : sizeOf (h .measures) ≤ length st → length (written h st) ≡ length st
+    unfolding written
+    length-written room = simp (length-append, length-drop, length-encode) (omega arith)
+
+    abbrev header : List ℕ
+    header = h .measures .columns ∷ h .measures .rows ∷ h .measures .scale ∷ 0 ∷ []
+
+    abbrev rest : List ℕ
+    rest = markBytes (h .marks) ++ drop (sizeOf (h .measures)) st
+
+    parts : written h st ≡ header ++ (h .base ++ (h .scaled ++ rest))
+    unfolding written encode
+    parts = simp append-assoc
+
+    base-part : region 4 (cells (h .measures)) (written h st) ≡ h .base
+    base-part = ap (region 4 (cells (h .measures))) parts ∙ region-at 4 (cells (h .measures)) header (h .base) (h .scaled ++ rest) refl (laid .base-cells)
+
+    scaled-part : region (4 + cells (h .measures)) (cells (h .measures)) (written h st) ≡ h .scaled
+    scaled-part =
+        ap (region (4 + cells (h .measures)) (cells (h .measures))) (parts ∙ sym (append-assoc header (h .base) (h .scaled ++ rest)))
+        ∙ region-at (4 + cells (h .measures)) (cells (h .measures)) (header ++ h .base) (h .scaled) rest (simp (laid .base-cells) (omega arith)) (laid .scaled-cells)
+
+    -- what stands before the marks
+    abbrev front : List ℕ
+    front = header ++ (h .base ++ h .scaled)
+
+    front-length : length front ≡ 4 + 2 * cells (h .measures)
+    front-length = simp (length-append, laid .base-cells, laid .scaled-cells) (omega arith)
+
+    mark-written : (k : ℕ) → k < length (h .marks) → u16At (written h st) (4 + 2 * cells (h .measures) + 2 * k) ≡ getD (h .marks) k 0
+    mark-written k l =
+        ap (λ (w : List ℕ). u16At w (4 + 2 * cells (h .measures) + 2 * k)) (parts ∙ simp append-assoc)
+        ∙ u16-past front rest (4 + 2 * cells (h .measures)) (2 * k) front-length
+        ∙ u16-marks (h .marks) (drop (sizeOf (h .measures)) st) k l
+
+    marks-part : marksIn (h .measures) (written h st) ≡ h .marks
+    marks-part =
+        ext-getD 0 (marksIn (h .measures) (written h st)) (h .marks) (length-marks (h .measures) (written h st) ∙ sym (laid .marks-sides))
+        (λ k l.
+        let m : k < sectors (h .measures) * 4 = rw (← length-marks (h .measures) (written h st)) l in
+        mark-at (h .measures) (written h st) k m ∙ mark-written k (rw (laid .marks-sides) m))
+
+    pub decode-written : decode (written h st) ≡ h
+    unfolding decode written encode
+    decode-written = λ i. record { measures = h .measures; base = base-part i; scaled = scaled-part i; marks = marks-part i }
