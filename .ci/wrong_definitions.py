@@ -1,9 +1,9 @@
 #!/usr/bin/env python3
-"""Tries each wrong definition of crates/audit/wrong/*.edit: the table of floors must refuse it.
+"""Tries each wrong definition of crates/audit/wrong/*.edit: the file that it names must refuse it.
 
-An edit changes files of the crate `model` (or `laws`) in a copy of the repository. There the edited crates must still
-be proved, or be refused themselves, and `audit` must not be: a wrong definition is caught by a computed floor or by a
-theorem. An edit has the form of a must-fail edit, with the crate before the file:
+An edit changes files of `model` or `laws` in a copy of the repository that has the named file of `audit` and what that
+file rests on, and nothing else: so it is the named table or theorem that tells the wrong definition from the right one.
+An edit has the form of a must-fail edit, with the crate before the file, and says which file must refuse it:
 
     # what is wrong
     file: model/specs/Windows.antt
@@ -22,6 +22,7 @@ import tempfile
 
 TOP = pathlib.Path(__file__).resolve().parent.parent
 CRATES = ("laws", "model", "audit")
+USED = re.compile(r"Rattle·(\w+)(?:·specs)?\.specs\.(\w+)")
 
 
 def read_edit(path):
@@ -42,57 +43,66 @@ def read_edit(path):
     return pairs, refuser
 
 
-def copy_to(folder):
-    """A repository of the crates that the table rests on."""
-    wanted = [line for line in (TOP / "crates.txt").read_text().splitlines() if line.split(":")[0] in CRATES]
-    (folder / "crates.txt").write_text("\n".join(wanted) + "\n")
+def rests_on(file, found):
+    """The spec files that a spec file rests on, itself among them."""
+    if file in found or not (TOP / "crates" / file).exists():
+        return found
+    found.add(file)
+    for crate, module in USED.findall((TOP / "crates" / file).read_text(encoding="utf-8")):
+        if crate in CRATES:
+            rests_on(f"{crate}/specs/{module}.antt", found)
+    return found
+
+
+def copy_part(refuser, folder):
+    """A repository of the named file and what it rests on."""
+    wanted = rests_on(refuser, set())
+    listed = [line for line in (TOP / "crates.txt").read_text().splitlines() if line.split(":")[0] in CRATES]
+    (folder / "crates.txt").write_text("\n".join(listed) + "\n")
     for name in CRATES:
-        shutil.copytree(TOP / "crates" / name, folder / "crates" / name)
+        shutil.copytree(TOP / "crates" / name / "src", folder / "crates" / name / "src")
+        specs = folder / "crates" / name / "specs"
+        specs.mkdir()
+        modules = [line for line in (TOP / "crates" / name / "specs" / "Lib.antt").read_text().splitlines() if f"{name}/specs/{line.split()[-1]}.antt" in wanted]
+        (specs / "Lib.antt").write_text("\n".join(modules) + "\n")
+        for file in wanted:
+            if file.startswith(f"{name}/"):
+                shutil.copy(TOP / "crates" / file, folder / "crates" / file)
 
 
-def check(folder):
-    """What `rt check audit` prints there, and its status."""
-    run = subprocess.run(["rt", "check", "audit"], cwd=folder, capture_output=True, text=True)
-    return run.returncode, run.stdout + run.stderr
+def apply(pairs, folder):
+    """Makes the replacements, and says what stands in the way."""
+    for file, old, new in pairs:
+        target = folder / "crates" / file
+        text = target.read_text(encoding="utf-8")
+        if text.count(old) != 1:
+            return f"'{old}' stands {text.count(old)} times in {file}"
+        target.write_text(text.replace(old, new), encoding="utf-8")
+    return None
 
 
-def first_error(printed):
-    """The file of the first error, from its crate on."""
-    found = re.search(r"crates/(\S+?\.antt):\d+:\d+: error", printed)
-    return found.group(1) if found else None
-
-
-def try_edit(base, path):
-    """Applies one edit to a copy of the proved repository, and says what is wrong with its verdict."""
+def try_edit(path):
+    """What is wrong with the verdict on an edit; None if it is refused as it must be."""
     pairs, refuser = read_edit(path)
     with tempfile.TemporaryDirectory() as scratch:
-        folder = pathlib.Path(scratch) / "repository"
-        shutil.copytree(base, folder)
-        for file, old, new in pairs:
-            target = folder / "crates" / file
-            text = target.read_text(encoding="utf-8")
-            if text.count(old) != 1:
-                return f"'{old}' stands {text.count(old)} times in {file}"
-            target.write_text(text.replace(old, new), encoding="utf-8")
-        status, printed = check(folder)
-    if status == 0:
+        folder = pathlib.Path(scratch)
+        copy_part(refuser, folder)
+        hindered = apply(pairs, folder)
+        if hindered:
+            return hindered
+        run = subprocess.run(["rt", "check", "audit"], cwd=folder, capture_output=True, text=True)
+    if run.returncode == 0:
         return "not refused"
-    error = first_error(printed)
-    if error != refuser:
-        return f"refused by {error}, not by {refuser}"
+    error = re.search(r"crates/(\S+?\.antt):\d+:\d+: error", run.stdout + run.stderr)
+    if not error or error.group(1) != refuser:
+        return f"refused by {error and error.group(1)}, not by {refuser}"
     return None
 
 
 def main():
-    edits = sorted((TOP / "crates" / "audit" / "wrong").glob("*.edit"))
-    with tempfile.TemporaryDirectory() as scratch:
-        base = pathlib.Path(scratch)
-        copy_to(base)
-        status, printed = check(base)
-        if status:
-            sys.exit(f"the table itself is not proved:\n{printed}")
-        with concurrent.futures.ThreadPoolExecutor(os.cpu_count() or 1) as pool:
-            verdicts = list(pool.map(lambda path: try_edit(base, path), edits))
+    edits = [pathlib.Path(name) for name in sys.argv[1:]] or sorted((TOP / "crates" / "audit" / "wrong").glob("*.edit"))
+    with concurrent.futures.ThreadPoolExecutor(os.cpu_count() or 1) as pool:
+        verdicts = list(pool.map(try_edit, edits))
     for path, verdict in zip(edits, verdicts):
         print(f"wrong definition {path.stem}: {verdict or 'refused, as it must be'}")
     wrong = sum(verdict is not None for verdict in verdicts)

@@ -1,5 +1,6 @@
 pub mod Starred
 pub mod Further
+pub mod Ties
 pub mod Borders
 pub mod Crossings
 pub mod SectorMoves

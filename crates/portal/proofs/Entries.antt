@@ -30,6 +30,8 @@ module _ {mark j : ℕ} {run : OpenRun} (e : run ≡ placesOf mark j) (m : mark 
   pub last-inside : run .last < 10
   last-inside = rw (ap (λ p. p .last) e) (window-run mark (omega arith) j h .inside)
 
+pub ruleset inside = (first-inside, last-inside)
+
 pub side-small : (side : Side) {n : ℕ} → n ≡ sideNumber side → n < 256
 side-small North e = omega arith
 side-small East e = omega arith

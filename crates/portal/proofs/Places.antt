@@ -1,6 +1,6 @@
 -- Facts for the marks' proofs: an open cell, a place between two cells, and a mark made from its last place down.
 use mathlib.Core.Path.{_≡_, refl, sym, ap, _∙_}
-use mathlib.Core.Bool.{Bool, true, false, not, _&&_}
+use mathlib.Core.Bool.{Bool, true, false, not}
 use mathlib.Core.List.{List, [], _∷_}
 use Prim.Native.Nat.{ℕ, zero, suc, _+_, _-_, _*_, _^_, _≤_, _<_}
 use native.Mathlib.Nat.{not-suc-le-zero, le-of-suc-le-suc}

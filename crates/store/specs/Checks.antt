@@ -12,7 +12,6 @@ use Rattle.laws.specs.Fold.{pick, false-ne-true, run}
 use Rattle.laws.specs.Search.{any, any-none}
 use Rattle.laws.specs.Ladder.{passed}
 use Rattle.model.specs.declared.Measures.{Measures}
-use Rattle.model.specs.declared.Measured.{Measured}
 use Rattle.model.specs.declared.Measured.the-variants.{Accepted, Refused}
 use Rattle.model.specs.Cells.{sideAt}
 use Rattle.model.specs.Sectors.{sectors, cells, hasBeyond}

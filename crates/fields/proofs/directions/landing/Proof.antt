@@ -10,13 +10,17 @@ eastward-requires : tie.Need-eastward-requires
 eastward-requires c κs = search needs
 
 stepped-requires : tie.Need-stepped-requires
-stepped-requires c κs = let e = eastward-small (c .before .args .d) in (omega arith, rw (c .eastward .ensures) e, omega arith)
+stepped-requires c κs =
+    let e = eastward-small (c .before .args .d) in
+    (omega arith, rw (c .eastward .ensures) e, omega arith)
 
 southward-requires : tie.Need-southward-requires
 southward-requires c κs = search needs
 
 stepped-requires-2 : tie.Need-stepped-requires-2
-stepped-requires-2 c κs = let e = southward-small (c .before .before .before .args .d) in (omega arith, rw (c .southward .ensures) e, omega arith)
+stepped-requires-2 c κs =
+    let e = southward-small (c .before .before .before .args .d) in
+    (omega arith, rw (c .southward .ensures) e, omega arith)
 
 mul-byte : tie.Need-mul-byte
 mul-byte c = search needs

@@ -41,7 +41,11 @@ add-result : tie.Need-add-result
 add-result c = omega (arith, mod-le (c .before .before .before .args .s) (c .before .before .wide .result), column (c .before))
 
 returns : tie.Need-returns
-returns c = let w = c .before .before .wide .ensures .0 in let a = c .before .less .ensures in let b = c .less2 .ensures in cc
+returns c =
+    let w = c .before .before .wide .ensures .0 in
+    let a = c .before .less .ensures in
+    let b = c .less2 .ensures in
+    cc
 
 pub shifted-spec : {M : Type 1} → statement M
 shifted-spec =

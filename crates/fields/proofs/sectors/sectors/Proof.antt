@@ -15,7 +15,10 @@ mul-result : tie.Need-mul-result
 mul-result c = omega (arith, bytes-product (c .before .wide .ensures .1) (c .wide2 .ensures .1))
 
 returns : tie.Need-returns
-returns c = let a = c .before .wide .ensures .0 in let b = c .wide2 .ensures .0 in cc
+returns c =
+    let a = c .before .wide .ensures .0 in
+    let b = c .wide2 .ensures .0 in
+    cc
 
 pub sectors-spec : {M : Type 1} → statement M
 sectors-spec = tie.close (tie.spec wide-requires wide-requires-2 mul-result returns)

@@ -1,6 +1,6 @@
 -- `listing::window_of` meets its contract: first and last cell by the places of the window.
 use borrow.Author.Needs.{needs}
-use Rattle.portal.proofs.Entries.{first-inside, last-inside, side-small, window-is}
+use Rattle.portal.proofs.Entries.{inside, side-small, window-is}
 use Rattle.portal.proofs.listing.window_of.Statement.{statement}
 use Rattle.portal.proofs.listing.window_of.Tie as tie
 
@@ -8,10 +8,10 @@ window-at-requires : tie.Need-window-at-requires
 window-at-requires c κs = search needs
 
 border-index-requires : tie.Need-border-index-requires
-border-index-requires c κs = search (needs, first-inside)
+border-index-requires c κs = search (needs, inside)
 
 border-index-requires-2 : tie.Need-border-index-requires-2
-border-index-requires-2 c κs = search (needs, last-inside)
+border-index-requires-2 c κs = search (needs, inside)
 
 side-number-requires : tie.Need-side-number-requires
 side-number-requires c κs = search needs

@@ -2,7 +2,7 @@
 use native.Mathlib.Omega.{arith}
 use Rattle.model.specs.Calls.{badMark}
 use Rattle.store.specs.Checks.{few-sectors}
-use Rattle.store.specs.Layout.{mark-at}
+use Rattle.model.specs.StoreLayout.{mark-at}
 use denote.Ref.{now}
 use borrow.Author.Needs.{needs}
 use Rattle.store.proofs.check.bad_mark.Statement.{statement}
@@ -30,15 +30,23 @@ side-at-requires : tie.Need-side-at-requires
 side-at-requires c κs = search needs
 
 has-beyond-requires : tie.Need-has-beyond-requires
-has-beyond-requires c κs = let s = c .before .before .before .before in (s .pre .0 .some-rows, omega (arith, few-sectors (s .pre .0)))
+has-beyond-requires c κs =
+    let s = c .before .before .before .before in
+    (s .pre .0 .some-rows, omega (arith, few-sectors (s .pre .0)))
 
 returns : tie.Need-returns
 unfolding badMark
-returns c = let s = c .before .before .before .before .before .before in let u = c .before .before .before in rw (mark-at (s .args .m) (now (s .args .st)) (s .args .k) (s .pre .2), ← c .before .before .side-at .ensures, ← c .before .has-beyond .ensures, c .if1 .taken, u .u16-at .ensures .0, u .before .cells .ensures)
+returns c =
+    let s = c .before .before .before .before .before .before in
+    let u = c .before .before .before in
+    rw (mark-at (s .args .m) (now (s .args .st)) (s .args .k) (s .pre .2), ← c .before .before .side-at .ensures, ← c .before .has-beyond .ensures, c .if1 .taken, u .u16-at .ensures .0, u .before .cells .ensures)
 
 returns-2 : tie.Need-returns-2
 unfolding badMark
-returns-2 c = let s = c .before .before .before .before .before .before in let u = c .before .before .before in rw (mark-at (s .args .m) (now (s .args .st)) (s .args .k) (s .pre .2), ← c .before .before .side-at .ensures, ← c .before .has-beyond .ensures, c .if1 .left, u .u16-at .ensures .0, u .before .cells .ensures)
+returns-2 c =
+    let s = c .before .before .before .before .before .before in
+    let u = c .before .before .before in
+    rw (mark-at (s .args .m) (now (s .args .st)) (s .args .k) (s .pre .2), ← c .before .before .side-at .ensures, ← c .before .has-beyond .ensures, c .if1 .left, u .u16-at .ensures .0, u .before .cells .ensures)
 
 pub bad-mark-spec : {M : Type 1} → statement M
 bad-mark-spec =

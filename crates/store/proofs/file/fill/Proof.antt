@@ -39,7 +39,9 @@ same-length : tie.Need-same-length Inv-loop μ-loop
 same-length c = search needs
 
 returns : tie.Need-returns Inv-loop μ-loop
-returns c = let i : c .before .loop .i ≡ length (c .before .before .args .list .now) = omega arith in c .before .loop .inv .2 ∙ rw (i, drop-length) (simp append-nil)
+returns c =
+    let i : c .before .loop .i ≡ length (c .before .before .args .list .now) = omega arith in
+    c .before .loop .inv .2 ∙ rw (i, drop-length) (simp append-nil)
 
 pub fill-spec : {M : Type 1} → statement M
 fill-spec =

@@ -33,7 +33,7 @@ same-length c = search needs
 
 returns : tie.Need-returns
 unfolding putEntry
-returns c = cc
+returns c = rw (c .before .u16-at .ensures .0)
 
 pub put-entry-spec : {M : Type 1} → statement M
 put-entry-spec =

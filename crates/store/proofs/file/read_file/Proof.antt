@@ -25,7 +25,10 @@ fill-requires : tie.Need-fill-requires
 fill-requires c κs = search needs
 
 put-entries-requires : tie.Need-put-entries-requires
-put-entries-requires c κs = let e = ok (c .before .before .before .before .before .before) in let n = c .before .before .before .before .before .u16-at .ensures .0 in (omega (arith, e .whole), rw n (e .on), c .before .before .before .fill .kept .0 ∙ e .room)
+put-entries-requires c κs =
+    let e = ok (c .before .before .before .before .before .before) in
+    let n = c .before .before .before .before .before .u16-at .ensures .0 in
+    (omega (arith, e .whole), rw n (e .on), c .before .before .before .fill .kept .0 ∙ e .room)
 
 measures-at-requires : tie.Need-measures-at-requires
 measures-at-requires c κs = omega (arith, ok (c .before .before .before .before .before .before .before .before .before) .head)
@@ -34,7 +37,11 @@ same-length : tie.Need-same-length
 same-length c = search needs
 
 returns-2 : tie.Need-returns-2
-returns-2 c = let p = c .before .before .before in let f = p .before .before .before .before in let n = f .before .before in read-accepted _ _ _ (n .before .before .read-number .ensures) _ _ _ _ (n .before .if1 .left) (c .measures-at .ensures) (n .u16-at .ensures .0) (f .fill .ensures) (p .put-entries .ensures)
+returns-2 c =
+    let p = c .before .before .before in
+    let f = p .before .before .before .before in
+    let n = f .before .before in
+    read-accepted _ _ _ (n .before .before .read-number .ensures) _ _ _ _ (n .before .if1 .left) (c .measures-at .ensures) (n .u16-at .ensures .0) (f .fill .ensures) (p .put-entries .ensures)
 
 pub read-file-spec : {M : Type 1} → statement M
 read-file-spec =
