@@ -3,11 +3,13 @@ use Prim.Native.Nat.{ℕ, zero, suc, _+_, _-_, _*_, _/_, _%_, _^_, _≤_, _<_}
 use native.Mathlib.Nat.{pow-succ', div-div-eq-div-mul}
 use native.Mathlib.Omega.{arith}
 use mathlib.Core.Path.{_≡_, refl, sym, ap, _∙_}
+use mathlib.Core.Logic.{_⊎_, inl, inr}
 use mathlib.Core.Bool.{Bool, true, false, _&&_, not}
 use lib.Dec.{ltb, leb, eqb}
 use borrow.Author.Tests.{ltb-true, lt-ltb, leb-true, le-leb, eqb-true, eq-eqb, ne-eqb, not-true}
 use Rattle.laws.specs.Fold.{bit}
 use Rattle.laws.specs.Search.{first, all, all-at, implies, implied, both}
+use Rattle.laws.specs.Graph.{below-or}
 use Rattle.model.specs.Windows.{bits, isOpen, begins, begun, windowCount, firstPlace, lastPlace, crossing}
 
 -- the number of the window on an open place
@@ -134,6 +136,25 @@ module _ (mark : ℕ) (small : mark < 1024) where
     where
       at-first : (n : ℕ) → Run mark n → windowOn mark (firstPlace mark n) ≡ n
       at-first n r = r .alone (firstPlace mark n) (omega arith) (r .ordered)
+
+-- windows that begin below a place begin below every later one
+begun-on : (mark i n : ℕ) → begun mark i ≤ begun mark (i + n)
+unfolding begun
+begun-on mark i zero = let e : i + 0 ≡ i = omega arith in rw e (omega arith)
+begun-on mark i (suc n) = let e : i + suc n ≡ suc (i + n) = omega arith in rw e (omega (arith, begun-on mark i n))
+
+-- "in order": a later window lies behind an earlier one
+pub in-order : (mark : ℕ) → mark < 1024 → (j k : ℕ) → j < k → k < windowCount mark → lastPlace mark j < firstPlace mark k
+in-order mark small j k l c = go (below-or (lastPlace mark j) (firstPlace mark k))
+  where
+    go : (lastPlace mark j < firstPlace mark k) ⊎ (firstPlace mark k ≤ lastPlace mark j) → lastPlace mark j < firstPlace mark k
+    go (inl h) = h
+    go (inr h) =
+        let a = window-run mark small j (omega arith) in
+        let b = window-run mark small k c in
+        let e : suc (firstPlace mark k) + (lastPlace mark j - firstPlace mark k) ≡ suc (lastPlace mark j) = omega arith in
+        let on = rw e at (begun-on mark (suc (firstPlace mark k)) (lastPlace mark j - firstPlace mark k)) in
+        absurd (omega (arith, on, a .alone (lastPlace mark j) (a .ordered) (omega arith), b .alone (firstPlace mark k) (omega arith) (b .ordered)))
 
 -- no place of a window is more than 5 places from its crossing
 pub near : {mark j : ℕ} → Run mark j → (i : ℕ) → firstPlace mark j ≤ i → i ≤ lastPlace mark j → (i ≤ crossing mark j + 5) × (crossing mark j ≤ i + 5)
