@@ -160,7 +160,7 @@ module _ (m : Measures) (base : List ℕ) (n v : ℕ) (one : m .scale ≡ 1) (lo
 -- a build gives a fresh hall
 pub built-fresh : (m : Measures) (base : List ℕ) → sectors m ≤ 100 → length base ≡ cells m → Fresh (built m base)
 unfolding built
-built-fresh m base small long = record { small = small; sized = length-floor m base ∙ long; marked = refl }
+built-fresh m base small long = record { small = small; sized = length-floor (cells m) m base long; marked = refl }
 
 none-more : (a b c : Bool) (x y : ℕ) → (a ≡ true → y ≡ x) → a && b && c && ltb x y ≡ false
 none-more false b c x y e = refl

@@ -68,7 +68,7 @@ module _ (m : Measures) (base st : List ℕ) (ok : Accepts m base st) where
 
   pub laid : Laid (built m base)
   unfolding built marksOf
-  laid = record { base-cells = ok .long; scaled-cells = length-floor m base ∙ ok .long; marks-sides = length-tabulate (λ k. markOf m (built m base .scaled) (k / 4) (sideAt (k % 4))) (sectors m * 4) 0 }
+  laid = record { base-cells = ok .long; scaled-cells = length-floor (cells m) m base (ok .long); marks-sides = length-tabulate (λ k. markOf m (built m base .scaled) (k / 4) (sideAt (k % 4))) (sectors m * 4) 0 }
 
   abbrev store : List ℕ
   store = written (built m base) st

@@ -14,6 +14,7 @@ pub mod Halls
 pub mod Portals
 pub mod Change
 pub mod Nearby
+pub mod ScaleKeeps
 pub mod ScaleLengths
 pub mod ScaleOne
 pub mod LeastPath

@@ -1,22 +1,21 @@
 -- At scale 1 no walk blocks a cell: scaled costs are base costs, after a build and after a change of one cost.
-use Prim.Native.Nat.{ℕ, suc, _+_, _*_, _/_, _%_, _≤_, _<_}
+use Prim.Native.Nat.{ℕ, suc, _+_, _*_, _/_, _≤_, _<_}
 use native.Mathlib.Omega.{arith}
 use mathlib.Core.Path.{_≡_, refl, sym, ap, _∙_}
 use mathlib.Core.Bool.{Bool, true, false}
 use mathlib.Core.List.{List, _++_}
 use lib.Dec.{ltb}
 use lib.ListN.{length, set, take, drop, length-set}
-use Rattle.laws.specs.Fold.{pick, pick-keeps, run, run-still, run-after}
+use Rattle.laws.specs.Fold.{pick, pick-keeps, run, run-after}
 use Rattle.laws.specs.Search.{first}
 use Rattle.laws.specs.Region.{region, within, within-same, region-within, set-within, length-region}
 use Rattle.model.specs.declared.Measures.{Measures}
-use Rattle.model.specs.declared.CompassDir.{CompassDir}
-use Rattle.model.specs.Costs.{openAt}
-use Rattle.model.specs.Sectors.{sectors, cells, sectorOf, placeOf, floorNumber, costsOf}
+use Rattle.model.specs.Sectors.{cells, sectorOf, placeOf, costsOf}
 use Rattle.model.specs.Directions.{compass, landing}
 use Rattle.model.specs.Scaling.{isWall, passes, blockStep, blockPassed, walk, scaleCell, scaleSector, scaleFloor}
 use Rattle.model.specs.Change.{nearby, isThere, forNearby, resetSector, rescaled}
 use Rattle.model.specs.Nearby.{atNearby}
+use Rattle.model.specs.ScaleKeeps.{cell-keeps, sector-keeps, floor-keeps, nearby-keeps}
 
 -- one step passes a cell and meets no wall, or it meets one and has passed none
 one-step : (p : ℕ → Bool) (f : ℕ → List ℕ → List ℕ) (xs : List ℕ) (k : ℕ) → k ≡ 1 → pick (ltb (first p k) k) (run f (first p k) xs) xs ≡ xs
@@ -32,22 +31,18 @@ module _ (m : Measures) (one : m .scale ≡ 1) where
   unfolding walk passes blockPassed
   walk-one s i k xs = one-step (λ n. isWall m xs s (landing i (compass k) (n + 1))) (blockStep s i (compass k)) xs (m .scale) one
 
+  -- what is xs before a walk is xs after it
+  still : (xs : List ℕ) (s i k : ℕ) (ys : List ℕ) → ys ≡ xs → walk m s i k ys ≡ xs
+  still xs s i k ys e = walk-one s i k ys ∙ e
+
   pub cell-one : (base : List ℕ) (s i : ℕ) (xs : List ℕ) → scaleCell m base s i xs ≡ xs
-  unfolding scaleCell
-  cell-one base s i xs = pick-keeps (λ (ys : List ℕ). ys ≡ xs) (openAt base (floorNumber s i)) _ _ refl (run-still (walk m s i) 8 xs (walk-one s i))
+  cell-one base s i xs = cell-keeps (λ (ys : List ℕ). ys ≡ xs) m (still xs) base s i xs refl
 
   pub sector-one : (base : List ℕ) (s : ℕ) (xs : List ℕ) → scaleSector m base s xs ≡ xs
-  unfolding scaleSector
-  sector-one base s xs = run-still (scaleCell m base s) 100 xs (cell-one base s)
+  sector-one base s xs = sector-keeps (λ (ys : List ℕ). ys ≡ xs) m (still xs) base s xs refl
 
   pub floor-one : (base : List ℕ) → scaleFloor m base ≡ base
-  unfolding scaleFloor
-  floor-one base = run-still (scaleSector m base) (sectors m) base (sector-one base)
-
--- a step that does nothing, made for the sectors nearby
-nearby-still : (m : Measures) (t : ℕ) (step : ℕ → List ℕ → List ℕ) → ((s : ℕ) (xs : List ℕ) → step s xs ≡ xs) → (xs : List ℕ) → forNearby m t step xs ≡ xs
-unfolding forNearby
-nearby-still m t step still xs = run-still (atNearby m t step) 9 xs (λ k ys. pick-keeps (λ (zs : List ℕ). zs ≡ ys) (isThere m t k) _ _ (still (nearby m t k) ys) refl)
+  floor-one base = floor-keeps (λ (ys : List ℕ). ys ≡ base) m (still base) base refl
 
 -- a sector that is as in base already
 reset-still : (base : List ℕ) (s : ℕ) → resetSector base s base ≡ base
@@ -74,7 +69,8 @@ reset-altered base n c fits = ap (λ (l : List ℕ). take a base ++ (l ++ drop 1
 -- a change of one cost, where scaled costs are base costs before it
 pub rescaled-one : (m : Measures) → m .scale ≡ 1 → (base : List ℕ) (n c : ℕ) → n < length base → length base ≡ cells m → rescaled m (set base n c) (n / 100) base ≡ set base n c
 unfolding rescaled forNearby nearby isThere
-rescaled-one m one base n c l long = nearby-still m (n / 100) (scaleSector m b) (sector-one m one b) (forNearby m (n / 100) (resetSector b) base) ∙ resets
+rescaled-one m one base n c l long =
+    nearby-keeps (λ (ys : List ℕ). ys ≡ b) m (n / 100) (omega arith) (scaleSector m b) (λ s ys on e. sector-one m one b s ys ∙ e) (forNearby m (n / 100) (resetSector b) base) resets
   where
     b : List ℕ
     b = set base n c
@@ -82,4 +78,4 @@ rescaled-one m one base n c l long = nearby-still m (n / 100) (scaleSector m b) 
     resets : forNearby m (n / 100) (resetSector b) base ≡ b
     resets =
         run-after (atNearby m (n / 100) (resetSector b)) base b (reset-altered base n c (omega arith))
-        (λ k. pick-keeps (λ (zs : List ℕ). zs ≡ b) (isThere m (n / 100) (suc k)) _ _ (reset-still b (nearby m (n / 100) (suc k))) refl) 8
+        (λ k. pick-keeps (λ (ys : List ℕ). ys ≡ b) (isThere m (n / 100) (suc k)) _ _ (reset-still b (nearby m (n / 100) (suc k))) refl) 8

@@ -1,0 +1,43 @@
+-- `scale_cell` walks from a cell where its base cost is blocked, and from no other.
+use Rattle.model.specs.Scaling.{scaleCell}
+use borrow.Author.Needs.{needs}
+use Rattle.sector_cost.proofs.scale_cell.Statement.{statement}
+use Rattle.sector_cost.proofs.scale_cell.Tie as tie
+
+mul-is-open : tie.Need-mul-is-open
+mul-is-open c = search needs
+
+add-is-open : tie.Need-add-is-open
+add-is-open c = search needs
+
+is-open-requires : tie.Need-is-open-requires
+is-open-requires c κs = search needs
+
+returns : tie.Need-returns
+unfolding scaleCell
+returns c = simp (← c .before .is-open .ensures, c .if1 .taken)
+
+scale-in-directions-requires : tie.Need-scale-in-directions-requires
+scale-in-directions-requires c κs = search needs
+
+same-length : tie.Need-same-length
+same-length c = search needs
+
+returns-2 : tie.Need-returns-2
+unfolding scaleCell
+returns-2 c =
+    let w = c .before .before in
+    let o = w .before .before in
+    simp (← o .before .is-open .ensures, o .if1 .left, w .scale-in-directions .ensures)
+
+pub scale-cell-spec : {M : Type 1} → statement M
+scale-cell-spec =
+    tie.close
+    (tie.spec
+    mul-is-open
+    add-is-open
+    is-open-requires
+    returns
+    scale-in-directions-requires
+    same-length
+    returns-2)

@@ -1,0 +1,51 @@
+-- `scale_nearby` is the run over the nine places.
+use Prim.Native.Nat.{_-_}
+use Rattle.laws.specs.Fold.{Ran, counting}
+use Rattle.model.specs.Scaling.{scaleSector}
+use Rattle.model.specs.Change.{forNearby}
+use Rattle.model.specs.Nearby.{atNearby}
+use borrow.Author.Needs.{needs}
+use Rattle.sector_cost.proofs.scale_nearby.Statement.{statement}
+use Rattle.sector_cost.proofs.scale_nearby.Tie as tie
+
+abbrev Inv-loop : tie.InvT-loop
+Inv-loop m base t scaled₀ k₀ scaled k = Ran (atNearby m t (scaleSector m base)) 9 k scaled₀ scaled
+
+abbrev μ-loop : tie.MeasureT-loop
+μ-loop m base t scaled₀ k₀ scaled k = 9 - k
+
+loop-holds : tie.Need-loop-holds Inv-loop μ-loop
+loop-holds c = search (needs, counting)
+
+scale-place-requires : tie.Need-scale-place-requires Inv-loop μ-loop
+scale-place-requires c κs = search needs
+
+add-k : tie.Need-add-k Inv-loop μ-loop
+add-k c = search needs
+
+loop-less : tie.Need-loop-less Inv-loop μ-loop
+loop-less c = search needs
+
+loop-again : tie.Need-loop-again Inv-loop μ-loop
+loop-again c = search (needs, counting)
+
+same-length : tie.Need-same-length Inv-loop μ-loop
+same-length c = search needs
+
+returns : tie.Need-returns Inv-loop μ-loop
+unfolding forNearby
+returns c = search (needs, counting)
+
+pub scale-nearby-spec : {M : Type 1} → statement M
+scale-nearby-spec =
+    tie.close
+    (tie.spec
+    Inv-loop
+    μ-loop
+    loop-holds
+    scale-place-requires
+    add-k
+    loop-less
+    loop-again
+    same-length
+    returns)

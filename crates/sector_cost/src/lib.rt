@@ -1,0 +1,225 @@
+// Scaling, and rescaling around a changed cell: document 01, item 7 and "A change". Costs are lists by floor number.
+pub mod nearby;
+
+ghost use mathlib.Core.Path.{_≡_};
+ghost use Prim.Native.Nat.{_+_, _*_, _≤_, _<_};
+ghost use lib.ListN.{length, set};
+ghost use Rattle.laws.specs.Fold.{run};
+ghost use Rattle.model.specs.Costs.{openAt};
+ghost use Rattle.model.specs.Sectors.{sectors, floorNumber};
+ghost use Rattle.model.specs.Directions.{landing};
+ghost use Rattle.model.specs.Scaling.{isWall, blockStep, walk, scaleCell, scaleSector, scaleFloor};
+ghost use Rattle.model.specs.Change.{forNearby, resetSector, rescaled};
+ghost use Rattle.sector_cost.specs.Costs.{Costs, Landed};
+ghost use Rattle.model.specs.Nearby.{atNearby};
+use crate::nearby::is_there;
+use crate::nearby::nearby;
+use fields::directions::compass;
+use fields::directions::landing;
+use fields::directions::on_floor;
+use fields::directions::shifted;
+use fields::sectors::sectors;
+use model::CompassDir;
+use model::Landing;
+use model::Measures;
+
+// Whether a cell of the floor is open.
+pub fn is_open(costs: &[u8], n: usize) -> bool
+    requires { ⌜ n < length (now costs) ⌝ }
+    ensures { λ r. ⌜ r ≡ openAt (now (costs .entry)) n ⌝ }
+{
+    costs[n] != 255
+}
+
+// Whether a landing from sector s is past the end of the floor, or on a blocked cell.
+pub fn is_wall(m: Measures, scaled: &[u8], s: usize, l: Landing) -> bool
+    requires { ⌜ Costs m (now scaled) × (s < sectors m) × Landed l ⌝ }
+    ensures { λ r. ⌜ r ≡ isWall m (now (scaled .entry)) s l ⌝ }
+{
+    let east = l.east as usize;
+    let south = l.south as usize;
+    if on_floor(m, s, east, south) {
+        let at = shifted(m, s, east, south) * 100 + l.index as usize;
+        return !is_open(scaled, at);
+    }
+    true
+}
+
+// Whether step n + 1 of a walk from cell i of sector s meets a wall.
+fn meets_wall(m: Measures, scaled: &[u8], s: usize, i: usize, d: CompassDir, n: usize) -> bool
+    requires { ⌜ Costs m (now scaled) × (s < sectors m) × (i < 100) × (n < 9) ⌝ }
+    ensures { λ r. ⌜ r ≡ isWall m (now (scaled .entry)) s (landing i d (n + 1)) ⌝ }
+{
+    is_wall(m, scaled, s, landing(i, d, n + 1))
+}
+
+// Blocks a landing's index, in sector s and not in the one landed in.
+fn block_cell(s: usize, l: Landing, scaled: &mut [u8])
+    requires { ⌜ (s * 100 + 100 ≤ length (now scaled)) × Landed l ⌝ }
+    ensures { λ _. ⌜ now (scaled .exit) ≡ set (now (scaled .entry)) (floorNumber s (l .index)) 255 ⌝ }
+{
+    let at = s * 100 + l.index as usize;
+    scaled[at] = 255;
+}
+
+// Blocks what step k + 1 of a walk from cell i of sector s passed.
+fn block_step(s: usize, i: usize, d: CompassDir, k: usize, scaled: &mut [u8])
+    requires { ⌜ (s * 100 + 100 ≤ length (now scaled)) × (i < 100) × (k < 9) ⌝ }
+    ensures { λ _. ⌜ now (scaled .exit) ≡ blockStep s i d k (now (scaled .entry)) ⌝ }
+{
+    block_cell(s, landing(i, d, k + 1), scaled);
+}
+
+// Blocks what the first n steps of a walk passed.
+fn block_passed(s: usize, i: usize, d: CompassDir, n: usize, scaled: &mut [u8])
+    requires { ⌜ (s * 100 + 100 ≤ length (now scaled)) × (i < 100) × (n ≤ 9) ⌝ }
+    ensures { λ _. ⌜ now (scaled .exit) ≡ run (blockStep s i d) n (now (scaled .entry)) ⌝ }
+{
+    let mut k = 0;
+    while k < n {
+        block_step(s, i, d, k, scaled);
+        k += 1;
+    }
+}
+
+// A walk of up to scale steps from cell i of sector s, in direction k: only if it meets a wall are the cells passed blocked.
+pub fn scale_in_compass_direction(m: Measures, s: usize, i: usize, k: usize, scaled: &mut [u8])
+    requires { ⌜ Costs m (now scaled) × (s < sectors m) × (i < 100) ⌝ }
+    ensures { λ _. ⌜ now (scaled .exit) ≡ walk m s i k (now (scaled .entry)) ⌝ }
+{
+    let scale = m.scale as usize;
+    let d = compass(k);
+    let mut n = 0;
+    let met = 'scale_loop: loop {
+        if scale <= n {
+            break 'scale_loop false;
+        }
+        if meets_wall(m, scaled, s, i, d, n) {
+            break 'scale_loop true;
+        }
+        n += 1;
+    };
+    if met {
+        block_passed(s, i, d, n, scaled);
+    }
+}
+
+// The walks from cell i of sector s in the first n directions.
+fn scale_in_directions(m: Measures, s: usize, i: usize, n: usize, scaled: &mut [u8])
+    requires { ⌜ Costs m (now scaled) × (s < sectors m) × (i < 100) ⌝ }
+    ensures { λ _. ⌜ now (scaled .exit) ≡ run (walk m s i) n (now (scaled .entry)) ⌝ }
+{
+    let mut k = 0;
+    while k < n {
+        scale_in_compass_direction(m, s, i, k, scaled);
+        k += 1;
+    }
+}
+
+// The eight walks from a cell, if it is base-blocked.
+pub fn scale_cell(m: Measures, base: &[u8], s: usize, i: usize, scaled: &mut [u8])
+    requires { ⌜ Costs m (now base) × Costs m (now scaled) × (s < sectors m) × (i < 100) ⌝ }
+    ensures { λ _. ⌜ now (scaled .exit) ≡ scaleCell m (now (base .entry)) s i (now (scaled .entry)) ⌝ }
+{
+    if is_open(base, s * 100 + i) {
+        return;
+    }
+    scale_in_directions(m, s, i, 8, scaled);
+}
+
+// The cells of a sector, in index order.
+pub fn scale_costfield(m: Measures, base: &[u8], s: usize, scaled: &mut [u8])
+    requires { ⌜ Costs m (now base) × Costs m (now scaled) × (s < sectors m) ⌝ }
+    ensures { λ _. ⌜ now (scaled .exit) ≡ scaleSector m (now (base .entry)) s (now (scaled .entry)) ⌝ }
+{
+    let mut i = 0;
+    while i < 100 {
+        scale_cell(m, base, s, i, scaled);
+        i += 1;
+    }
+}
+
+// The first n sectors, in number order.
+fn scale_sectors(m: Measures, base: &[u8], n: usize, scaled: &mut [u8])
+    requires { ⌜ Costs m (now base) × Costs m (now scaled) × (n ≤ sectors m) ⌝ }
+    ensures { λ _. ⌜ now (scaled .exit) ≡ run (scaleSector m (now (base .entry))) n (now (scaled .entry)) ⌝ }
+{
+    let mut s = 0;
+    while s < n {
+        scale_costfield(m, base, s, scaled);
+        s += 1;
+    }
+}
+
+// All scaled costs start as base costs; then the sectors are scaled. At scale 1 no walk blocks a cell.
+pub fn scale_all_costfields(m: Measures, base: &[u8], scaled: &mut [u8])
+    requires { ⌜ Costs m (now base) × Costs m (now scaled) ⌝ }
+    ensures { λ _. ⌜ now (scaled .exit) ≡ scaleFloor m (now (base .entry)) ⌝ }
+{
+    bytes::copy(base, scaled);
+    if m.scale == 1 {
+        return;
+    }
+    scale_sectors(m, base, sectors(m), scaled);
+}
+
+// Scaled costs are reset to base in sector s.
+pub fn reset_sector(base: &[u8], s: usize, scaled: &mut [u8])
+    requires { ⌜ (s * 100 + 100 ≤ length (now base)) × (length (now scaled) ≡ length (now base)) ⌝ }
+    ensures { λ _. ⌜ now (scaled .exit) ≡ resetSector (now (base .entry)) s (now (scaled .entry)) ⌝ }
+{
+    let from = s * 100;
+    let to = from + 100;
+    bytes::copy(&base[from..to], &mut scaled[from..to]);
+}
+
+// Resets place k of the sectors around t, if there is one.
+fn reset_place(m: Measures, base: &[u8], t: usize, k: usize, scaled: &mut [u8])
+    requires { ⌜ Costs m (now base) × Costs m (now scaled) × (t < sectors m) ⌝ }
+    ensures { λ _. ⌜ now (scaled .exit) ≡ atNearby m t (resetSector (now (base .entry))) k (now (scaled .entry)) ⌝ }
+{
+    if is_there(m, t, k) {
+        reset_sector(base, nearby(m, t, k), scaled);
+    }
+}
+
+fn reset_nearby(m: Measures, base: &[u8], t: usize, scaled: &mut [u8])
+    requires { ⌜ Costs m (now base) × Costs m (now scaled) × (t < sectors m) ⌝ }
+    ensures { λ _. ⌜ now (scaled .exit) ≡ forNearby m t (resetSector (now (base .entry))) (now (scaled .entry)) ⌝ }
+{
+    let mut k = 0;
+    while k < 9 {
+        reset_place(m, base, t, k, scaled);
+        k += 1;
+    }
+}
+
+// Rescales place k of the sectors around t, if there is one.
+fn scale_place(m: Measures, base: &[u8], t: usize, k: usize, scaled: &mut [u8])
+    requires { ⌜ Costs m (now base) × Costs m (now scaled) × (t < sectors m) ⌝ }
+    ensures { λ _. ⌜ now (scaled .exit) ≡ atNearby m t (scaleSector m (now (base .entry))) k (now (scaled .entry)) ⌝ }
+{
+    if is_there(m, t, k) {
+        scale_costfield(m, base, nearby(m, t, k), scaled);
+    }
+}
+
+fn scale_nearby(m: Measures, base: &[u8], t: usize, scaled: &mut [u8])
+    requires { ⌜ Costs m (now base) × Costs m (now scaled) × (t < sectors m) ⌝ }
+    ensures { λ _. ⌜ now (scaled .exit) ≡ forNearby m t (scaleSector m (now (base .entry))) (now (scaled .entry)) ⌝ }
+{
+    let mut k = 0;
+    while k < 9 {
+        scale_place(m, base, t, k, scaled);
+        k += 1;
+    }
+}
+
+// After a change in sector t: it and its up to eight surrounding sectors are reset, and only then rescaled, t first.
+pub fn rescale(m: Measures, base: &[u8], t: usize, scaled: &mut [u8])
+    requires { ⌜ Costs m (now base) × Costs m (now scaled) × (t < sectors m) ⌝ }
+    ensures { λ _. ⌜ now (scaled .exit) ≡ rescaled m (now (base .entry)) t (now (scaled .entry)) ⌝ }
+{
+    reset_nearby(m, base, t, scaled);
+    scale_nearby(m, base, t, scaled);
+}
