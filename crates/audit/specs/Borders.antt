@@ -1,18 +1,17 @@
 -- The borders of sectors on the plain floor: which cells share a side along a border and over it, and what lies beyond a side.
-use Prim.Native.Nat.{ℕ, zero, suc, _+_, _-_, _*_, _/_, _%_, _≤_, _<_}
+use Prim.Native.Nat.{ℕ, suc, _+_, _-_, _*_, _/_, _%_, _≤_, _<_}
 use native.Mathlib.Nat.{div-add-mod', mod-lt, add-mul-mod-self-right, add-mul-div-right, mod-eq-of-lt, div-eq-of-lt, div-lt-iff-lt-mul}
 use native.Mathlib.Decide.{ℕ-discrete}
 use native.Mathlib.Omega.{arith}
 use mathlib.Core.Path.{_≡_, refl, sym, ap, _∙_}
 use mathlib.Core.Logic.{_⊎_, inl, inr, _≢_}
-use mathlib.Core.Bool.{Bool, true, false}
-use lib.Dec.{ltb, leb}
+use mathlib.Core.Bool.{true}
 use borrow.Author.Tests.{ltb-true, lt-ltb, leb-true, le-leb}
 use Rattle.model.specs.declared.Measures.{Measures}
 use Rattle.model.specs.declared.Side.{Side}
 use Rattle.model.specs.declared.Side.the-variants.{North, East, South, West}
 use Rattle.model.specs.Cells.{opposite}
-use Rattle.model.specs.Sectors.{sectors, floorNumber, across, down, beyond, hasBeyond}
+use Rattle.model.specs.Sectors.{sectors, floorNumber, beyond, hasBeyond}
 use Rattle.model.specs.PlainFloor.{across-is, down-is}
 use Rattle.model.specs.Windows.{border}
 use Rattle.model.specs.Account.{OneApart, ShareSide}

@@ -2,33 +2,32 @@
 use Prim.Native.Nat.{ℕ, zero, suc, _+_, _-_, _*_, _/_, _%_, _≤_, _<_}
 use native.Mathlib.Nat.{div-add-mod', mod-lt, div-lt-iff-lt-mul}
 use native.Mathlib.Omega.{arith}
-use mathlib.Core.Path.{_≡_, refl, sym, ap, ap₂, _∙_, fun-ext}
+use mathlib.Core.Path.{_≡_, refl, sym, ap, ap₂, _∙_}
 use mathlib.Core.Logic.{_≢_}
 use mathlib.Core.Bool.{Bool, true, false, _&&_, not, true≢false}
 use mathlib.Core.List.{List}
-use lib.Dec.{ltb, leb, eqb}
-use lib.ListN.{length, getD, set, length-set}
+use lib.Dec.{ltb, eqb}
+use lib.ListN.{length, getD, set}
 use lib.Seq.{getD-set-other, ext-getD}
 use borrow.Author.Tests.{ltb-true, leb-true, le-leb, le-ltb, eq-eqb}
 use Rattle.laws.specs.Fold.{pick, bit}
-use Rattle.laws.specs.Search.{any, any-has, any-no}
+use Rattle.laws.specs.Search.{any-has, any-no}
 use Rattle.laws.specs.Table.{tabulate, tabulate-at, length-tabulate}
 use Rattle.model.specs.declared.Measures.{Measures}
 use Rattle.model.specs.declared.Side.{Side}
 use Rattle.model.specs.declared.Side.the-variants.{North, East, South, West}
-use Rattle.model.specs.Cells.{sideNumber, sideAt, opposite}
+use Rattle.model.specs.Cells.{sideAt, opposite}
 use Rattle.model.specs.Costs.{openAt}
 use Rattle.model.specs.Sectors.{sectors, cells, columnOf, rowOf, sectorOf, floorNumber, beyond, hasBeyond}
-use Rattle.model.specs.Directions.{eastward, southward, compass, shifted, onAxis, onFloor}
-use Rattle.model.specs.Scaling.{scaleFloor}
+use Rattle.model.specs.Directions.{onAxis, onFloor}
 use Rattle.model.specs.Windows.{border, openPlace, bits, markOf, marksOf, windowCount}
 use Rattle.model.specs.Halls.{Hall, markAt}
-use Rattle.model.specs.Change.{nearby, isThere, isNearby, remarked, rescaled, changed, exceedsAt, exceeds}
+use Rattle.model.specs.Change.{nearby, isThere, isNearby, remarked, changed, exceedsAt, exceeds}
 use Rattle.model.specs.ScaleOne.{floor-one, rescaled-one}
 use Rattle.model.specs.ScaleLengths.{length-floor}
-use Rattle.model.specs.Calls.{hallOver, built}
-use Rattle.audit.specs.Borders.{border-low, sector-cell, opposite-twice, has-rows, column-next, Beyond, lies-beyond}
-use Rattle.audit.specs.Gates.{Fresh, facing-marks, far-mark}
+use Rattle.model.specs.Calls.{built}
+use Rattle.audit.specs.Borders.{border-low, sector-cell, has-rows, column-next, lies-beyond}
+use Rattle.audit.specs.Gates.{Fresh, far-mark}
 
 -- ---- the sectors around a change
 -- a place of the nine

@@ -6,7 +6,7 @@ use mathlib.Core.Path.{_≡_, refl, sym, ap, _∙_}
 use mathlib.Core.Logic.{_≢_, _↔_, _⊎_, inl, inr}
 use mathlib.Core.Bool.{Bool, true, false, _&&_}
 use mathlib.Core.List.{List, [], _∷_, _++_}
-use lib.Dec.{ltb, leb, eqb}
+use lib.Dec.{ltb, eqb}
 use lib.ListN.{length, set, length-set}
 use borrow.Author.Tests.{lt-ltb, le-ltb, lt-leb, eq-eqb, ne-eqb}
 use Rattle.laws.specs.Fold.{pick}
@@ -17,19 +17,18 @@ use Rattle.laws.specs.Floor as floor
 use Rattle.laws.specs.Detour.{Promise}
 use Rattle.model.specs.declared.Measures.{Measures}
 use Rattle.model.specs.declared.RouteStep.{RouteStep}
-use Rattle.model.specs.declared.Routed.{Routed}
 use Rattle.model.specs.declared.Routed.the-variants as answer
 use Rattle.model.specs.Sectors.{cells}
 use Rattle.model.specs.Moves.{joined}
 use Rattle.model.specs.Halls.{Hall}
 use Rattle.model.specs.Route.{Found, none, route, routeOf}
-use Rattle.model.specs.Store.{decode, written}
+use Rattle.model.specs.Store.{written}
 use Rattle.model.specs.Account.{Call, change, Account, fed, accountAfter, accountCosts, Walk}
 use Rattle.model.specs.Account as calls
-use Rattle.model.specs.Calls.{orElse, ifAccepted, buildNumber, built, buildInto, changeNumber, changeInto, checkNumber, stepList, foundNumber, routeNumber, routed, routeAnswer, storeAfterCall, storeAfter}
+use Rattle.model.specs.Calls.{orElse, ifAccepted, buildNumber, built, buildInto, changeNumber, changeInto, stepList, foundNumber, routeNumber, routed, routeAnswer, storeAfterCall, storeAfter}
 use Rattle.audit.specs.Crossings.{floorOf, open-on}
 use Rattle.audit.specs.Gates.{Fresh}
-use Rattle.audit.specs.RoutePromise.{Gives, same-found, route-promise, route-room}
+use Rattle.audit.specs.RoutePromise.{Gives, route-promise, route-room}
 use Rattle.audit.specs.StoreAfter.{Accepts, accepts, fresh, decoded, checks, changed-one, refused-off, refused-leaves}
 use Rattle.audit.specs.Walks.{walk-is}
 

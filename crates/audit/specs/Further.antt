@@ -1,7 +1,6 @@
 -- Further floors beside those of 01, each of which tells a definition from a wrong one that all starred floors would let pass. Each entry is proved by computation.
-use Prim.Native.Nat.{ℕ}
 use mathlib.Core.Path.{_≡_, refl}
-use mathlib.Core.List.{List, [], _∷_, _++_}
+use mathlib.Core.List.{[], _∷_, _++_}
 use lib.ListN.{getD, set}
 use Rattle.model.specs.declared.Routed.the-variants.{Route}
 use Rattle.model.specs.Calls.{changeNumber, changeInto, routeAnswer}

@@ -1,10 +1,9 @@
 -- In a hall whose marks are those of its costs, as build leaves it: facing marks are equal, a window's cells are open on both sides, and every move over a border has a facing pair of portals beside it, at most 5 moves off on each side.
 use Prim.Native.Nat.{ℕ, zero, suc, _+_, _-_, _*_, _/_, _%_, _≤_, _<_}
 use native.Mathlib.Nat.{add-zero}
-use native.Mathlib.Decide.{ℕ-discrete}
 use native.Mathlib.Omega.{arith}
 use mathlib.Core.Path.{_≡_, refl, sym, ap, subst, subst₂, _∙_, fun-ext}
-use mathlib.Core.Logic.{_⊎_, inl, inr, _≢_}
+use mathlib.Core.Logic.{_⊎_, inl, inr}
 use mathlib.Core.Bool.{Bool, true, false, _&&_}
 use mathlib.Core.List.{List}
 use lib.Dec.{ltb, leb}
@@ -12,7 +11,7 @@ use lib.ListN.{length, getD, List·getD-eq-default}
 use borrow.Author.Tests.{ltb-true, lt-ltb, leb-true, leb-false}
 use Rattle.laws.specs.Fold.{pick}
 use Rattle.laws.specs.Search.{both}
-use Rattle.laws.specs.Table.{tabulate, tabulate-at, length-tabulate}
+use Rattle.laws.specs.Table.{tabulate-at, length-tabulate}
 use Rattle.laws.specs.Graph.{below-or}
 use Rattle.laws.specs.Floor.{Floor, Inside, here, move}
 use Rattle.laws.specs.Detour.{Gate, Portals}
@@ -20,8 +19,8 @@ use Rattle.model.specs.declared.Measures.{Measures}
 use Rattle.model.specs.declared.Side.{Side}
 use Rattle.model.specs.Cells.{sideNumber, sideAt, opposite}
 use Rattle.model.specs.Costs.{openAt}
-use Rattle.model.specs.Sectors.{sectors, cells, floorNumber, sectorOf, beyond, hasBeyond}
-use Rattle.model.specs.Moves.{movesTo, joined}
+use Rattle.model.specs.Sectors.{sectors, cells, floorNumber, beyond, hasBeyond}
+use Rattle.model.specs.Moves.{movesTo}
 use Rattle.model.specs.MovesFewest.{side-number, side-low, Joined, is-joined}
 use Rattle.model.specs.Windows.{border, openPlace, bits, markOf, marksOf, isOpen, windowCount, firstPlace, lastPlace, crossing}
 use Rattle.model.specs.WindowRuns.{Run, window-run, windowOn, few-windows, open-lies, near, crossing-in, bits-small, bits-open}
@@ -30,9 +29,9 @@ use Rattle.model.specs.Portals.{portalSector, portalSide, portalWindow, portalM
 use Rattle.model.specs.LeastPathFirst.{Fits}
 use Rattle.model.specs.Computing.{computing}
 use Rattle.audit.specs.Borders.{border-low, sector-cell, opposite-twice, share-back, share-along, Beyond, lies-beyond}
-use Rattle.audit.specs.Crossings.{Move, floorOf, Leaving, cross-leaving}
+use Rattle.audit.specs.Crossings.{floorOf, cross-leaving}
 use Rattle.audit.specs.SectorMoves.{inside-joined, joined-inside}
-use Rattle.audit.specs.PortalEdges.{Arc, portal-on, mid-sector, moves-between, outer-arc, inner-arc, EdgeIs, outer, inner, arc-edge}
+use Rattle.audit.specs.PortalEdges.{Arc, mid-sector, moves-between, outer-arc, inner-arc, EdgeIs, outer, inner, arc-edge}
 
 -- a hall of at most 100 sectors, with a cost for each cell, whose marks are those of its costs
 pub record Fresh (h : Hall) : Type 0 where

@@ -1,23 +1,21 @@
 -- The arcs of the portal graph are 01's edges: a facing pair at weight 1, and two portals of a sector whose midpoints are joined at their fewest moves.
-use Prim.Native.Nat.{ℕ, zero, suc, _+_, _-_, _*_, _/_, _%_, _≤_, _<_}
+use Prim.Native.Nat.{ℕ, _+_, _*_, _/_, _%_, _<_}
 use native.Mathlib.Omega.{arith}
 use mathlib.Core.Path.{_≡_, refl, sym, ap, ap₂, _∙_}
-use mathlib.Core.Logic.{_⊎_, inl, inr, _≢_}
+use mathlib.Core.Logic.{_≢_}
 use mathlib.Core.Bool.{Bool, true, false, _&&_}
 use mathlib.Core.List.{List}
 use lib.Dec.{ltb, eqb}
 use lib.ListN.{getD}
-use borrow.Author.Tests.{ltb-true, lt-ltb, eqb-true, eqb-false, eq-eqb, ne-eqb}
+use borrow.Author.Tests.{ltb-true, lt-ltb, eq-eqb, ne-eqb}
 use Rattle.laws.specs.Fold.{pick}
 use Rattle.laws.specs.Search.{both}
-use Rattle.model.specs.declared.Side.{Side}
-use Rattle.model.specs.declared.Side.the-variants.{North, East, South, West}
-use Rattle.model.specs.Sectors.{sectors, sectorOf, placeOf, floorNumber, costsOf, hasBeyond}
+use Rattle.model.specs.Sectors.{sectors, sectorOf, placeOf, costsOf, hasBeyond}
 use Rattle.model.specs.Moves.{moves, apart, movesTo, joined}
-use Rattle.model.specs.MovesFewest.{Joined, joined-is, is-joined}
-use Rattle.model.specs.Windows.{border, windowCount, crossing}
-use Rattle.model.specs.WindowRuns.{Run, window-run, crossing-in}
-use Rattle.model.specs.Halls.{Hall, markAt}
+use Rattle.model.specs.MovesFewest.{joined-is}
+use Rattle.model.specs.Windows.{windowCount, crossing}
+use Rattle.model.specs.WindowRuns.{crossing-in}
+use Rattle.model.specs.Halls.{Hall}
 use Rattle.model.specs.Portals.{portalSector, portalSide, portalWindow, portalMark, isPortal, midpoint, midCell, facing, headOf, key, outerEdge, innerEdge, edgeAt, portalGraph}
 use Rattle.model.specs.LeastPathFirst.{Fits, edgeCost, weight-at, portal-places}
 use Rattle.audit.specs.Borders.{border-low, sector-cell}

@@ -1,29 +1,29 @@
 -- The route of a fresh hall keeps the promise of the detour: given exactly when a walk exists, a walk itself, and within the bound. And its steps fit into 1,001.
-use Prim.Native.Nat.{ℕ, zero, suc, _+_, _-_, _*_, _/_, _%_, _≤_, _<_}
+use Prim.Native.Nat.{ℕ, _+_, _*_, _≤_, _<_}
 use native.Mathlib.Omega.{arith}
 use mathlib.Core.Path.{_≡_, refl, sym, ap, ap₂, _∙_}
-use mathlib.Core.Logic.{_⊎_, inl, inr, _↔_}
+use mathlib.Core.Logic.{_⊎_, inl}
 use mathlib.Core.Bool.{Bool, true, false, _&&_, true≢false}
 use mathlib.Core.List.{List, [], _∷_, map}
 use lib.Dec.{ltb}
 use lib.ListN.{length, getD}
 use borrow.Author.Tests.{ltb-true, lt-ltb}
 use Rattle.laws.specs.Fold.{pick}
-use Rattle.laws.specs.Search.{both, passing, passing-is, passing-has}
+use Rattle.laws.specs.Search.{both, passing-is, passing-has}
 use Rattle.laws.specs.Graph.{Graph}
 use Rattle.laws.specs.Keys.{Journey, arrived, onward, Before, cheaper, shorter, earlier, few-edges}
-use Rattle.laws.specs.Choice.{In, here, in-cons, map-is, map-has, Best, nothing, best, winner, winner-in, pairs, pairs-is, pairs-has}
-use Rattle.laws.specs.Floor.{Floor, Inside}
-use Rattle.laws.specs.Detour.{Portals, Path, at, along, LeastOf, Lengths, Pair, leg-of, run-of, Chosen, Promise, promise, Winning, chosen}
+use Rattle.laws.specs.Choice.{In, here, in-cons, map-is, map-has, Best, nothing, best, winner, winner-in, pairs-is, pairs-has}
+use Rattle.laws.specs.Floor.{Inside}
+use Rattle.laws.specs.Detour.{Path, at, along, Lengths, Pair, leg-of, run-of, Chosen, Promise, promise, Winning, chosen}
 use Rattle.model.specs.declared.RouteStep.{RouteStep}
-use Rattle.model.specs.Sectors.{sectors, sectorOf}
+use Rattle.model.specs.Sectors.{sectorOf}
 use Rattle.model.specs.Moves.{movesTo, joined}
-use Rattle.model.specs.MovesFewest.{Joined, joined-is}
+use Rattle.model.specs.MovesFewest.{joined-is}
 use Rattle.model.specs.Halls.{Hall}
 use Rattle.model.specs.Portals.{portalSector, isPortal, midCell, portalGraph}
 use Rattle.model.specs.LeastPath.{nodeRank, unlinked, keysTo, costOfKey, leastPath}
 use Rattle.model.specs.LeastPathFirst.{edgeCost, portal-keyed, keys-settled, head-portal, linked, least-path}
-use Rattle.model.specs.Route.{End, starts, ends, endOf, linkedPair, runOf, routePairs, chosenPair, stepsOf, Found, route, none, throughPair, throughPortals, routeOf}
+use Rattle.model.specs.Route.{End, starts, ends, endOf, linkedPair, runOf, routePairs, chosenPair, stepsOf, route, none, throughPair, throughPortals, routeOf}
 use Rattle.model.specs.Route as choice
 use Rattle.audit.specs.Crossings.{floorOf}
 use Rattle.audit.specs.SectorMoves.{fewest, inside-joined}

@@ -1,17 +1,17 @@
 -- Moves inside a sector of the floor are the walks of the sector's own graph, so that `joined` and `movesTo` are least over all moves inside a sector.
-use Prim.Native.Nat.{ℕ, zero, suc, _+_, _-_, _*_, _/_, _%_, _≤_, _<_}
+use Prim.Native.Nat.{ℕ, suc, _+_, _-_, _*_, _/_, _%_, _≤_, _<_}
 use native.Mathlib.Omega.{arith}
 use mathlib.Core.Path.{_≡_, refl, sym, ap, subst, _∙_}
-use mathlib.Core.Logic.{_⊎_, inl, inr, ⊎-elim}
+use mathlib.Core.Logic.{inl, inr, ⊎-elim}
 use mathlib.Core.Bool.{Bool, true, false, not}
 use mathlib.Core.List.{List}
 use lib.Dec.{ltb, leb, eqb}
-use lib.ListN.{getD, drop}
+use lib.ListN.{drop}
 use lib.Seq.{getD-take, getD-drop}
 use borrow.Author.Tests.{ltb-true, lt-ltb, leb-true, le-leb}
 use Rattle.laws.specs.Fold.{pick}
 use Rattle.laws.specs.Region.{region}
-use Rattle.laws.specs.Graph.{Graph, Walk, stay, along, walk-join}
+use Rattle.laws.specs.Graph.{Walk, stay, along, walk-join}
 use Rattle.laws.specs.Floor.{Inside, here, move, inside-join}
 use Rattle.laws.specs.Detour.{LeastOf}
 use Rattle.model.specs.declared.Measures.{Measures}
@@ -20,12 +20,11 @@ use Rattle.model.specs.declared.Side.the-variants.{North, East, South, West}
 use Rattle.model.specs.Cells.{sideNumber, sideAt, beside}
 use Rattle.model.specs.Costs.{openAt}
 use Rattle.model.specs.Sectors.{floorNumber, sectorOf, placeOf, costsOf, across, down}
-use Rattle.model.specs.Moves.{moveGraph, apart, moves, movesTo, joined}
-use Rattle.model.specs.Moves as arc
-use Rattle.model.specs.MovesFewest.{side-number, side-low, Moves, move-is, move-one, moves-fewest, moves-any, Joined, joined-is, is-joined}
+use Rattle.model.specs.Moves.{moveGraph, movesTo, joined}
+use Rattle.model.specs.MovesFewest.{side-number, side-low, Moves, move-is, move-one, moves-fewest, moves-any, joined-is, is-joined}
 use Rattle.model.specs.Account.{ShareSide}
 use Rattle.audit.specs.Borders.{share-inside, share-back, sector-cell}
-use Rattle.audit.specs.Crossings.{Move, floorOf}
+use Rattle.audit.specs.Crossings.{floorOf}
 
 -- ---- a sector's costs
 pub open-in : (costs : List ℕ) (s i : ℕ) → i < 100 → openAt (costsOf costs s) i ≡ openAt costs (floorNumber s i)

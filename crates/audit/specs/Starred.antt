@@ -1,5 +1,5 @@
 -- 01, "Floors to try": every starred floor, in 01's order, as one table over the definitions. Each entry is proved by computation.
-use Prim.Native.Nat.{ℕ, _+_, _/_, _%_}
+use Prim.Native.Nat.{ℕ, _/_, _%_}
 use mathlib.Core.Path.{_≡_, refl}
 use mathlib.Core.Bool.{false}
 use mathlib.Core.List.{List, [], _∷_, _++_}

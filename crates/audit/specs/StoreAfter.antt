@@ -1,33 +1,30 @@
 -- The store after build and any list of calls is the build of the account, as long as a change is accepted only at scale 1.
-use Prim.Native.Nat.{ℕ, zero, suc, _+_, _-_, _*_, _/_, _%_, _≤_, _<_}
+use Prim.Native.Nat.{ℕ, zero, suc, _*_, _/_, _%_, _≤_, _<_}
 use native.Mathlib.Nat.{mul-le-mul}
-use native.Mathlib.Decide.{ℕ-discrete}
 use native.Mathlib.Omega.{arith}
-use mathlib.Core.Path.{_≡_, refl, sym, ap, ap₂, _∙_}
-use mathlib.Core.Logic.{_⊎_, inl, inr, _≢_}
-use mathlib.Core.Bool.{Bool, true, false, _&&_, _||_, not}
-use mathlib.Core.List.{List, [], _∷_, _++_}
-use lib.Dec.{ltb, leb, eqb}
+use mathlib.Core.Path.{_≡_, refl, sym, ap, _∙_}
+use mathlib.Core.Logic.{_≢_}
+use mathlib.Core.Bool.{Bool, true, false, _||_}
+use mathlib.Core.List.{List, _++_}
+use lib.Dec.{ltb, eqb}
 use lib.ListN.{length, getD, set, drop, length-set}
 use lib.Seq.{drop-at}
-use borrow.Author.Tests.{ltb-false, lt-ltb, le-ltb, leb-true, leb-false, le-leb, lt-leb, eqb-true, eq-eqb, ne-eqb, not-false}
+use borrow.Author.Tests.{ltb-false, le-ltb, le-leb, lt-leb, eqb-true, not-false}
 use Rattle.laws.specs.Fold.{pick, false-ne-true}
 use Rattle.laws.specs.Search.{any, any-no}
 use Rattle.laws.specs.Ladder.{refuse, passed}
-use Rattle.laws.specs.Table.{tabulate, tabulate-at, length-tabulate}
-use Rattle.laws.specs.Graph.{below-or}
+use Rattle.laws.specs.Table.{tabulate-at, length-tabulate}
 use Rattle.model.specs.declared.Measures.{Measures}
 use Rattle.model.specs.declared.Side.{Side}
 use Rattle.model.specs.Cells.{sideAt}
 use Rattle.model.specs.Sectors.{sectors, cells, sectorOf, hasBeyond}
-use Rattle.model.specs.Windows.{bits, openPlace, markOf, marksOf}
+use Rattle.model.specs.Windows.{markOf, marksOf}
 use Rattle.model.specs.Halls.{Hall}
-use Rattle.model.specs.Change.{changed, exceeds}
+use Rattle.model.specs.Change.{changed}
 use Rattle.model.specs.ScaleLengths.{length-floor}
 use Rattle.model.specs.Store.{measuresAt, sizeOf, marksIn, decode, encode, written}
 use Rattle.model.specs.StoreLayout.{Laid, length-encode, length-written, decode-written}
-use Rattle.model.specs.Account.{Call, change, route, Account, fed, accountAfter}
-use Rattle.model.specs.Calls.{outside, badSectors, badScale, orElse, ifAccepted, buildNumber, built, buildInto, badMark, checkNumber, alterNumber, changeNumber, changeInto, storeAfterCall, storeAfter}
+use Rattle.model.specs.Calls.{outside, badSectors, badScale, orElse, ifAccepted, buildNumber, built, badMark, checkNumber, alterNumber, changeNumber, changeInto}
 use Rattle.audit.specs.Gates.{Fresh, mark-small}
 use Rattle.audit.specs.ChangeAtOne.{changed-built, built-fresh, fresh-exceeds}
 

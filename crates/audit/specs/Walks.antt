@@ -3,9 +3,9 @@ use Prim.Native.Nat.{ℕ, suc, _+_, _<_}
 use native.Mathlib.Nat.{zero-add}
 use native.Mathlib.Decide.{ℕ-discrete}
 use native.Mathlib.Omega.{arith}
-use mathlib.Core.Path.{_≡_, refl, sym, ap, _∙_}
+use mathlib.Core.Path.{_≡_, refl, ap}
 use mathlib.Core.Logic.{_↔_}
-use mathlib.Core.Bool.{Bool, true, false}
+use mathlib.Core.Bool.{true}
 use mathlib.Core.List.{List, [], _∷_}
 use lib.Dec.{eqb}
 use lib.ListN.{length}
@@ -13,11 +13,10 @@ use borrow.Author.Tests.{eq-eqb, ne-eqb}
 use Rattle.laws.specs.Fold.{pick}
 use Rattle.laws.specs.Floor.{Floor, stand, step, cross, walk-starts}
 use Rattle.laws.specs.Floor as floor
-use Rattle.model.specs.declared.Measures.{Measures}
 use Rattle.model.specs.Costs.{openAt}
 use Rattle.model.specs.Sectors.{cells, sectorOf}
-use Rattle.model.specs.Account.{Account, accountCosts, ShareSide, Along, crossings, Walk}
-use Rattle.audit.specs.Crossings.{Move, floorOf, open-on}
+use Rattle.model.specs.Account.{Account, accountCosts, Along, crossings, Walk}
+use Rattle.audit.specs.Crossings.{floorOf, open-on}
 
 module _ (a : Account) (sized : length (accountCosts a) ≡ cells (a .measures)) where
   abbrev ground : Floor

@@ -1,23 +1,20 @@
 -- Demand 3 at work: halls, lists of calls and pairs that meet its premises, and floors on which its bound is met exactly.
-use Prim.Native.Nat.{ℕ, _+_, _*_, _/_, _%_, _≤_}
+use Prim.Native.Nat.{ℕ, _+_, _*_, _%_, _≤_}
 use native.Mathlib.Omega.{arith}
 use mathlib.Core.Path.{_≡_, refl}
-use mathlib.Core.Logic.{_≢_, inl, inr}
-use mathlib.Core.Bool.{Bool, true, false, _&&_, not}
+use mathlib.Core.Logic.{inl, inr}
+use mathlib.Core.Bool.{_&&_}
 use mathlib.Core.List.{List, [], _∷_}
-use lib.Dec.{leb, ltb, eqb}
+use lib.Dec.{ltb}
 use lib.ListN.{replicate}
 use Rattle.laws.specs.Search.{passing}
-use Rattle.model.specs.declared.Measures.{Measures}
-use Rattle.model.specs.declared.Routed.the-variants.{Route, NoRoute}
-use Rattle.model.specs.Sectors.{cells}
-use Rattle.model.specs.Moves.{joined}
-use Rattle.model.specs.Account.{Call, change, route, accountAfter, accountCosts, Walk}
+use Rattle.model.specs.declared.Routed.the-variants.{Route}
+use Rattle.model.specs.Account.{Call, change, route, accountAfter, Walk}
 use Rattle.model.specs.Store.{sizeOf}
-use Rattle.model.specs.Calls.{buildNumber, buildInto, routeAnswer, storeAfter}
+use Rattle.model.specs.Calls.{buildInto, routeAnswer, storeAfter}
 use Rattle.model.specs.Computing.{computing}
 use Rattle.audit.specs.Starred.{hall, floor}
-use Rattle.audit.specs.Demand3.{opening, ChangesOnlyAtScale1, Claim, demand-3}
+use Rattle.audit.specs.Demand3.{opening, Claim, demand-3}
 
 -- ---- 2 by 1, all open, then three calls: one change, one that is refused, and a route call
 abbrev base : List ℕ

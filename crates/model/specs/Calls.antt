@@ -1,6 +1,6 @@
 -- 01, "Calls and their numbers, in order": each call's refusals, its answer, and what it leaves in the memory that it is lent.
 use Prim.Native.Nat.{ℕ, zero, suc, _+_, _*_, _/_, _%_}
-use mathlib.Core.Bool.{Bool, true, not, _&&_, _||_}
+use mathlib.Core.Bool.{Bool, not, _&&_, _||_}
 use mathlib.Core.List.{List, [], _∷_, _++_}
 use lib.Dec.{leb, ltb, eqb}
 use lib.ListN.{length, getD, drop}
@@ -29,7 +29,7 @@ use Rattle.model.specs.Halls.{Hall, markAt}
 use Rattle.model.specs.Change.{changed, exceeds}
 use Rattle.model.specs.Route.{Found, none, routeOf}
 use Rattle.model.specs.Route as found-as
-use Rattle.model.specs.Store.{u16At, measuresAt, sizeOf, marksIn, decode, written, entryCount, entryNumber, baseIn}
+use Rattle.model.specs.Store.{measuresAt, sizeOf, marksIn, decode, written, entryCount, entryNumber, baseIn}
 use Rattle.model.specs.Account.{Call, change}
 use Rattle.model.specs.Account as call-as
 

@@ -1,5 +1,5 @@
 -- 01, "A change".
-use Prim.Native.Nat.{ℕ, zero, suc, _+_, _*_, _/_, _%_}
+use Prim.Native.Nat.{ℕ, zero, suc, _*_, _/_, _%_}
 use mathlib.Core.Bool.{Bool, true, _&&_, not}
 use mathlib.Core.List.{List}
 use lib.Dec.{ltb, eqb}

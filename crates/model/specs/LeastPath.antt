@@ -1,5 +1,5 @@
 -- 01, "Stand-in for petgraph": the least portal path.
-use Prim.Native.Nat.{ℕ, _+_, _*_, _/_, _%_}
+use Prim.Native.Nat.{ℕ, _+_, _*_, _/_}
 use mathlib.Core.List.{List}
 use lib.ListN.{getD}
 use Rattle.laws.specs.Graph.{Graph, turned}
@@ -9,7 +9,7 @@ use Rattle.model.specs.declared.FieldCell.{FieldCell}
 use Rattle.model.specs.Cells.{sideNumber}
 use Rattle.model.specs.Windows.{borderCell, firstPlace, lastPlace}
 use Rattle.model.specs.Halls.{Hall}
-use Rattle.model.specs.Portals.{portalSector, portalSide, portalWindow, portalMark, portalGraph}
+use Rattle.model.specs.Portals.{portalSector, portalSide, portalWindow, portalMark}
 
 -- a cell's place in that order
 abbrev pub cellRank : FieldCell → ℕ

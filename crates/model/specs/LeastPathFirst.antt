@@ -1,19 +1,19 @@
 -- `leastPath` is least among all portal paths: by cost, then by edges, then by the first difference in `PortalNode` order; and there is none exactly where its key says so.
-use Prim.Native.Nat.{ℕ, zero, suc, _+_, _-_, _*_, _/_, _%_, _≤_, _<_}
+use Prim.Native.Nat.{ℕ, zero, suc, _+_, _*_, _/_, _%_, _≤_, _<_}
 use native.Mathlib.Omega.{arith}
 use mathlib.Core.Path.{_≡_, refl, sym, ap, _∙_}
 use mathlib.Core.Bool.{Bool, true, false, _&&_}
 use mathlib.Core.List.{List, []}
 use lib.Dec.{ltb, eqb}
 use lib.ListN.{getD, replicate, getD-replicate}
-use borrow.Author.Tests.{ltb-true, lt-ltb, eqb-true, eqb-false}
+use borrow.Author.Tests.{ltb-true}
 use Rattle.laws.specs.Fold.{pick}
 use Rattle.laws.specs.Search.{both}
 use Rattle.laws.specs.Table.{tabulate, tabulate-at}
-use Rattle.laws.specs.Graph.{Graph, Sound, Settled, turned}
-use Rattle.laws.specs.LeastCosts.{least-costs, least-costs-settled}
+use Rattle.laws.specs.Graph.{Sound, Settled, turned}
+use Rattle.laws.specs.LeastCosts.{least-costs-settled}
 use Rattle.laws.specs.FirstPath.{Tells}
-use Rattle.laws.specs.Keys.{Keyed, Journey, Before, least-journey, journey-reached, few-edges}
+use Rattle.laws.specs.Keys.{Keyed, Journey, Before, least-journey, journey-reached}
 use Rattle.model.specs.declared.Side.{Side}
 use Rattle.model.specs.declared.Side.the-variants.{North, East, South, West}
 use Rattle.model.specs.Cells.{sideNumber, sideAt}

@@ -2,13 +2,12 @@
 use Prim.Native.Nat.{ℕ, zero, suc, _+_, _*_, _/_, _%_, min}
 use Prim.Native.Char.{code}
 use Prim.Native.String.{String, len, charAt}
-use mathlib.Core.Bool.{Bool, true, false}
+use mathlib.Core.Bool.{true, false}
 use mathlib.Core.List.{List, [], _∷_, _++_}
 use lib.Dec.{ltb}
 use lib.ListN.{length, take, drop}
 use Rattle.laws.specs.Fold.{pick}
 use Rattle.laws.specs.Table.{tabulate}
-use Rattle.model.specs.declared.Measures.{Measures}
 use Rattle.model.specs.declared.RouteStep.{RouteStep}
 use Rattle.model.specs.Sectors.{cells}
 use Rattle.model.specs.Route.{Found, none, route, routeOf}

@@ -1,6 +1,6 @@
 -- 01, item 6: a hall's columns, rows and scale from four f32 values, in IEEE 754 arithmetic.
 use Prim.Native.Nat.{ℕ, _+_, _-_, _*_, _/_, _^_}
-use mathlib.Core.Bool.{Bool, true, false, cond}
+use mathlib.Core.Bool.{false, cond}
 use lib.IntN.{pos}
 use lib.Ieee.{Float, nan, inf, fin, up, down, binary32, mul, div}
 use Rattle.model.specs.declared.Dimensions.{Dimensions}

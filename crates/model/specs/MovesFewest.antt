@@ -1,7 +1,7 @@
 -- `moves` gives the fewest moves, and `apart` exactly where no moves lead. The way back is as long, the triangle rule holds, and "joined" is an equivalence.
-use Prim.Native.Nat.{ℕ, zero, suc, _+_, _-_, _*_, _/_, _%_, _≤_, _<_}
+use Prim.Native.Nat.{ℕ, _+_, _-_, _*_, _/_, _%_, _≤_, _<_}
 use native.Mathlib.Omega.{arith}
-use mathlib.Core.Path.{_≡_, refl, sym, ap, _∙_}
+use mathlib.Core.Path.{_≡_, refl, sym, _∙_}
 use mathlib.Core.Bool.{Bool, true, false, _&&_}
 use mathlib.Core.List.{List}
 use lib.Dec.{leb, ltb, eqb}
@@ -9,8 +9,8 @@ use lib.ListN.{getD}
 use borrow.Author.Tests.{ltb-true, lt-ltb, leb-true, le-leb, eqb-true, eq-eqb}
 use Rattle.laws.specs.Fold.{pick}
 use Rattle.laws.specs.Search.{both}
-use Rattle.laws.specs.Graph.{Graph, Sound, Walk, stay, along, Least, Settled, BothWays, none-less, settled-least, reached, unreached, walk-join, least-back, least-triangle}
-use Rattle.laws.specs.LeastCosts.{least-costs, least-costs-settled}
+use Rattle.laws.specs.Graph.{Sound, Walk, Least, Settled, BothWays, none-less, settled-least, reached, walk-join, least-back}
+use Rattle.laws.specs.LeastCosts.{least-costs-settled}
 use Rattle.model.specs.declared.Side.{Side}
 use Rattle.model.specs.declared.Side.the-variants.{North, East, South, West}
 use Rattle.model.specs.Cells.{sideNumber, sideAt, opposite, beside}

@@ -2,9 +2,9 @@
 use Prim.Native.Nat.{ℕ}
 use mathlib.Core.Path.{_≡_}
 use mathlib.Core.Logic.{_↔_}
-use mathlib.Core.List.{List, []}
+use mathlib.Core.List.{[]}
 use Rattle.laws.specs.Graph.{Graph}
-use Rattle.laws.specs.Choice.{Best, nothing, best, Leads, winner-first, winner-none}
+use Rattle.laws.specs.Choice.{nothing, best, Leads, winner-first, winner-none}
 use Rattle.model.specs.Halls.{Hall}
 use Rattle.model.specs.Route.{Pair, runOf, routePairs, chosenPair}
 

@@ -1,5 +1,5 @@
 -- 01, item 7, first part: scaling. Base costs and scaled costs are lists by floor number.
-use Prim.Native.Nat.{ℕ, _+_, _*_}
+use Prim.Native.Nat.{ℕ, _+_}
 use mathlib.Core.Bool.{Bool, true, not}
 use mathlib.Core.List.{List}
 use lib.Dec.{ltb}

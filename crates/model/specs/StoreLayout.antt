@@ -1,6 +1,6 @@
 -- Where the parts of a hall stand in a store, and that a hall written into a store is read back.
 use mathlib.Core.Path.{_≡_, refl, sym, ap, _∙_}
-use mathlib.Core.Bool.{Bool, not}
+use mathlib.Core.Bool.{not}
 use mathlib.Core.List.{List, [], _∷_, _++_, append-assoc}
 use Prim.Native.Nat.{ℕ, zero, suc, _+_, _*_, _/_, _%_, _≤_, _<_}
 use native.Mathlib.Nat.{not-suc-le-zero, le-of-suc-le-suc, add-assoc}
@@ -15,7 +15,7 @@ use Rattle.model.specs.declared.Measures.{Measures}
 use Rattle.model.specs.Costs.{openAt}
 use Rattle.model.specs.Sectors.{sectors, cells}
 use Rattle.model.specs.Halls.{Hall}
-use Rattle.model.specs.Store.{u16At, measuresAt, sizeOf, marksIn, hallIn, decode, markBytes, encode, written}
+use Rattle.model.specs.Store.{u16At, measuresAt, sizeOf, marksIn, decode, markBytes, encode, written}
 
 -- ---- a hall whose lists are as long as its measures say
 pub record Laid (h : Hall) : Type 0 where
