@@ -10,7 +10,7 @@ use lib.Dec.{ltb, eqb}
 use lib.ListN.{length, getD, set}
 use lib.Seq.{getD-set-other, ext-getD}
 use borrow.Author.Tests.{ltb-true, leb-true, le-leb, le-ltb, eq-eqb}
-use Rattle.laws.specs.Fold.{pick, bit}
+use Rattle.laws.specs.Fold.{pick}
 use Rattle.laws.specs.Search.{any-has, any-no}
 use Rattle.laws.specs.Table.{tabulate, tabulate-at, length-tabulate}
 use Rattle.model.specs.declared.Measures.{Measures}
@@ -21,6 +21,7 @@ use Rattle.model.specs.Costs.{openAt}
 use Rattle.model.specs.Sectors.{sectors, cells, columnOf, rowOf, sectorOf, floorNumber, beyond, hasBeyond}
 use Rattle.model.specs.Directions.{onAxis, onFloor}
 use Rattle.model.specs.Windows.{border, openPlace, bits, markOf, marksOf, windowCount}
+use Rattle.model.specs.WindowRuns.{bits-same}
 use Rattle.model.specs.Halls.{Hall, markAt}
 use Rattle.model.specs.Change.{nearby, isThere, isNearby, remarked, changed, exceedsAt, exceeds}
 use Rattle.model.specs.ScaleOne.{floor-one, rescaled-one}
@@ -87,11 +88,6 @@ module _ (m : Measures) (t : ℕ) (on : t < sectors m) where
           near-at m t 4 (t - m .rows) (omega arith) (rw (on-axis (columnOf m t + 0) (m .columns) (omega arith) (omega (arith, column)), on-axis (rowOf m t + 1) (m .rows) (omega arith) (omega (arith, row)))) (rw less back)
 
 -- ---- marks after a change of one cost
-bits-same : (p q : ℕ → Bool) (n : ℕ) → ((i : ℕ) → i < n → p i ≡ q i) → bits p n ≡ bits q n
-unfolding bits
-bits-same p q zero e = refl
-bits-same p q (suc n) e = ap₂ (λ (b : Bool) (rest : ℕ). bit b + 2 * rest) (e 0 (omega arith)) (bits-same (λ i. p (suc i)) (λ i. q (suc i)) n (λ i l. e (suc i) (omega arith)))
-
 open-other : (costs : List ℕ) (n v x : ℕ) → x ≢ n → openAt (set costs n v) x ≡ openAt costs x
 unfolding openAt
 open-other costs n v x e = ap (λ (c : ℕ). not (eqb c 255)) (getD-set-other costs n x v 255 e)

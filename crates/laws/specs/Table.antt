@@ -1,8 +1,9 @@
 -- A table whose entries are given by a rule.
 use mathlib.Core.Path.{_≡_, refl, sym, ap, _∙_}
-use mathlib.Core.List.{List, [], _∷_}
+use mathlib.Core.List.{List, [], _∷_, _++_}
 use Prim.Native.Nat.{ℕ, zero, suc, _+_, _<_}
 use native.Mathlib.Nat.{add-zero, zero-add, add-suc, suc-add, le-of-suc-le-suc, not-suc-le-zero}
+use native.Mathlib.Numerals.{add-one}
 use lib.ListN.{getD, length}
 
 -- n entries, from f i on
@@ -27,3 +28,18 @@ tabulate-at f n k z h = tabulate-from f n 0 k z h ∙ ap f (zero-add k)
 -- A list that is the tabulated rule (by `refl` under `unfolding tabulate`, where it computes) has the rule at each index.
 pub table-at : {A : Type 0} (f : ℕ → A) (n : ℕ) {l : List A} → l ≡ tabulate f n 0 → (k : ℕ) (z : A) → k < n → getD l k z ≡ f k
 table-at f n e k z h = ap (λ l. getD l k z) e ∙ tabulate-at f n k z h
+
+-- one entry more
+pub tabulate-more : {A : Type 0} (f : ℕ → A) (n : ℕ) → tabulate f (n + 1) 0 ≡ tabulate f n 0 ++ (f n ∷ [])
+unfolding tabulate
+tabulate-more f n = rw add-one (from n 0 ∙ ap (λ k. tabulate f n 0 ++ (f k ∷ [])) (zero-add n))
+  where
+    from : (n i : ℕ) → tabulate f (suc n) i ≡ tabulate f n i ++ (f (i + n) ∷ [])
+    from zero i = rw add-zero
+    from (suc n) i = ap (λ l. f i ∷ l) (from n (suc i)) ∙ rw (suc-add, add-suc)
+
+-- inside a list it does not matter what is read past its end
+pub getD-default : (l : List ℕ) (n a b : ℕ) → n < length l → getD l n a ≡ getD l n b
+getD-default [] n a b h = absurd (not-suc-le-zero h)
+getD-default (x ∷ l) zero a b h = refl
+getD-default (x ∷ l) (suc n) a b h = getD-default l n a b (le-of-suc-le-suc h)

@@ -1,5 +1,6 @@
 pub mod Cells
 pub mod Costs
+pub mod CostsRead
 pub mod Sectors
 pub mod Steps
 pub mod Directions

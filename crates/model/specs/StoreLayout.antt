@@ -1,18 +1,15 @@
 -- Where the parts of a hall stand in a store, and that a hall written into a store is read back.
 use mathlib.Core.Path.{_≡_, refl, sym, ap, _∙_}
-use mathlib.Core.Bool.{not}
 use mathlib.Core.List.{List, [], _∷_, _++_, append-assoc}
 use Prim.Native.Nat.{ℕ, zero, suc, _+_, _*_, _/_, _%_, _≤_, _<_}
 use native.Mathlib.Nat.{not-suc-le-zero, le-of-suc-le-suc, add-assoc}
 use native.Mathlib.Numerals.{add-one}
 use native.Mathlib.Omega.{arith}
-use lib.Dec.{eqb}
 use lib.ListN.{length, getD, drop, length-append, length-drop}
 use lib.Seq.{getD-append-add, ext-getD}
 use Rattle.laws.specs.Region.{region, length-region, getD-region, region-at}
 use Rattle.laws.specs.Table.{length-tabulate, tabulate-at}
 use Rattle.model.specs.declared.Measures.{Measures}
-use Rattle.model.specs.Costs.{openAt}
 use Rattle.model.specs.Sectors.{sectors, cells}
 use Rattle.model.specs.Halls.{Hall}
 use Rattle.model.specs.Store.{u16At, measuresAt, sizeOf, marksIn, decode, markBytes, encode, written}
@@ -31,12 +28,6 @@ mark-at m st k h = tabulate-at (λ k. u16At st (4 + 2 * cells m + 2 * k)) (secto
 length-marks : (m : Measures) (st : List ℕ) → length (marksIn m st) ≡ sectors m * 4
 unfolding marksIn
 length-marks m st = length-tabulate (λ k. u16At st (4 + 2 * cells m + 2 * k)) (sectors m * 4) 0
-
--- a place of a list has one value, whatever stands past its end
-pub getD-default : (l : List ℕ) (i a b : ℕ) → i < length l → getD l i a ≡ getD l i b
-getD-default [] i a b h = absurd (not-suc-le-zero h)
-getD-default (x ∷ l) zero a b h = refl
-getD-default (x ∷ l) (suc i) a b h = getD-default l i a b (le-of-suc-le-suc h)
 
 module _ (st : List ℕ) where
   pub decode-measures : decode st .measures ≡ measuresAt st
@@ -63,14 +54,6 @@ module _ (st : List ℕ) where
       scaled-cells = length-region (4 + cells (measuresAt st)) (cells (measuresAt st)) st (omega arith);
       marks-sides = length-marks (measuresAt st) st;
     }
-
-    pub open-base : (n : ℕ) → n < cells (measuresAt st) → openAt (decode st .base) n ≡ not (eqb (getD st (4 + n) 0) 255)
-    unfolding openAt decode
-    open-base n h = ap (λ (x : ℕ). not (eqb x 255)) (getD-default (decode st .base) n 255 0 (rw (decode-laid .base-cells) h) ∙ base-at n h)
-
-    pub open-scaled : (n : ℕ) → n < cells (measuresAt st) → openAt (decode st .scaled) n ≡ not (eqb (getD st (4 + cells (measuresAt st) + n) 0) 255)
-    unfolding openAt decode
-    open-scaled n h = ap (λ (x : ℕ). not (eqb x 255)) (getD-default (decode st .scaled) n 255 0 (rw (decode-laid .scaled-cells) h) ∙ scaled-at n h)
 
 -- ---- writing
 pub length-markBytes : (marks : List ℕ) → length (markBytes marks) ≡ 2 * length marks

@@ -194,3 +194,8 @@ unfolding bits
 bits-open test zero i l = absurd (omega arith)
 bits-open test (suc n) zero l = open-front (test 0) (bits (λ i. test (suc i)) n)
 bits-open test (suc n) (suc i) l = open-past (test 0) (bits (λ k. test (suc k)) n) i ∙ bits-open (λ k. test (suc k)) n i (omega arith)
+
+pub bits-same : (p q : ℕ → Bool) (n : ℕ) → ((i : ℕ) → i < n → p i ≡ q i) → bits p n ≡ bits q n
+unfolding bits
+bits-same p q zero h = refl
+bits-same p q (suc n) h = rw (h 0 (omega arith), bits-same (λ i. p (suc i)) (λ i. q (suc i)) n (λ i l. h (suc i) (omega arith)))

@@ -2,7 +2,7 @@
 use mathlib.Core.Path.{_≡_, refl, sym, ap, _∙_}
 use mathlib.Core.List.{List, [], _∷_, _++_, append-assoc, append-nil}
 use Prim.Native.Nat.{ℕ, zero, suc, _+_, _-_, _*_, _≤_, _<_}
-use native.Mathlib.Nat.{not-suc-le-zero, le-of-suc-le-suc, add-zero, zero-add, add-suc, suc-add}
+use native.Mathlib.Nat.{not-suc-le-zero, le-of-suc-le-suc, add-zero}
 use native.Mathlib.Numerals.{add-one}
 use native.Mathlib.Omega.{arith}
 use mir.Val.{Fits}
@@ -10,7 +10,7 @@ use mir.Syntax.{w64}
 use lib.ListN.{length, getD, take, drop, set, length-append, length-take, length-drop, drop-of-length-le}
 use lib.Seq.{take-at, drop-at, drop-drop, take-all}
 use borrow.Rule.Slice.PartMut.{putMid}
-use Rattle.laws.specs.Table.{tabulate, length-tabulate}
+use Rattle.laws.specs.Table.{tabulate, length-tabulate, tabulate-more}
 use Rattle.model.specs.declared.PortalWindow.{PortalWindow}
 use Rattle.model.specs.declared.Side.{Side}
 use Rattle.model.specs.declared.Side.the-variants.{North, East, South, West}
@@ -52,15 +52,6 @@ set-three a b c [] h = absurd (not-suc-le-zero h)
 set-three a b c (x ∷ []) h = absurd (not-suc-le-zero (le-of-suc-le-suc h))
 set-three a b c (x ∷ y ∷ []) h = absurd (not-suc-le-zero (le-of-suc-le-suc (le-of-suc-le-suc h)))
 set-three a b c (x ∷ y ∷ z ∷ xs) h = refl
-
--- ---- a table with one entry more
-tabulate-more : {A : Type 0} (f : ℕ → A) (n : ℕ) → tabulate f (n + 1) 0 ≡ tabulate f n 0 ++ (f n ∷ [])
-unfolding tabulate
-tabulate-more f n = rw add-one (from n 0 ∙ ap (λ k. tabulate f n 0 ++ (f k ∷ [])) (zero-add n))
-  where
-    from : (n i : ℕ) → tabulate f (suc n) i ≡ tabulate f n i ++ (f (i + n) ∷ [])
-    from zero i = rw add-zero
-    from (suc n) i = ap (λ l. f i ∷ l) (from n (suc i)) ∙ rw (suc-add, add-suc)
 
 -- ---- the bytes of windows
 flat-append : (ws vs : List PortalWindow) → flatWindows (ws ++ vs) ≡ flatWindows ws ++ flatWindows vs

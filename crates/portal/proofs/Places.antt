@@ -1,13 +1,10 @@
 -- Facts for the marks' proofs: an open cell, a place between two cells, and a mark made from its last place down.
-use mathlib.Core.Path.{_≡_, refl, sym, ap, _∙_}
-use mathlib.Core.Bool.{Bool, true, false, not}
-use mathlib.Core.List.{List, [], _∷_}
-use Prim.Native.Nat.{ℕ, zero, suc, _+_, _-_, _*_, _^_, _≤_, _<_}
-use native.Mathlib.Nat.{not-suc-le-zero, le-of-suc-le-suc}
+use mathlib.Core.Path.{_≡_, refl, ap, _∙_}
+use mathlib.Core.Bool.{Bool, true, false}
+use mathlib.Core.List.{List}
+use Prim.Native.Nat.{ℕ, suc, _+_, _-_, _*_, _^_, _≤_, _<_}
 use native.Mathlib.Omega.{arith}
 use lib.Pow.{pow-mono}
-use lib.Dec.{eqb}
-use lib.ListN.{length, getD, List·getD-eq-default}
 use Rattle.laws.specs.Fold.{bit}
 use Rattle.model.specs.declared.BorderCells.{BorderCells}
 use Rattle.model.specs.declared.FieldCell.{FieldCell}
@@ -18,24 +15,9 @@ use Rattle.model.specs.Cells.{indexOf}
 use Rattle.model.specs.Costs.{openAt}
 use Rattle.model.specs.Sectors.{beyond, hasBeyond}
 use Rattle.model.specs.Windows.{borderCells, openPlace, bits, markOf}
-use Rattle.model.specs.WindowRuns.{bits-small}
+use Rattle.model.specs.WindowRuns.{bits-small, bits-same}
 use Rattle.portal.specs.Marks.{openPair, openBetween}
 use Rattle.portal.proofs.Sides.{own-at, facing-at}
-
--- ---- an open cell
--- inside a list it does not matter what stands past its end
-getD-any : (l : List ℕ) (n a b : ℕ) → n < length l → getD l n a ≡ getD l n b
-getD-any [] n a b h = absurd (not-suc-le-zero h)
-getD-any (x ∷ l) zero a b h = refl
-getD-any (x ∷ l) (suc n) a b h = getD-any l n a b (le-of-suc-le-suc h)
-
-pub open-here : (costs : List ℕ) (n : ℕ) → n < length costs → not (eqb (getD costs n 0) 255) ≡ openAt costs n
-unfolding openAt
-open-here costs n h = ap (λ c. not (eqb c 255)) (getD-any costs n 0 255 h)
-
-pub open-off : (costs : List ℕ) (n : ℕ) → length costs ≤ n → false ≡ openAt costs n
-unfolding openAt
-open-off costs n h = ap (λ c. not (eqb c 255)) (sym (List·getD-eq-default costs 255 h))
 
 -- ---- a place
 pub pair-yes : (costs : List ℕ) (s t : ℕ) (own facing : FieldCell) {i j : ℕ} {r q : Bool} → i ≡ indexOf own → r ≡ openAt costs (s * 100 + i) → r ≡ true → j ≡ indexOf facing → q ≡ openAt costs (t * 100 + j)
@@ -84,12 +66,6 @@ marked-end {test} {i} {mark} m h =
     m .is ∙ (λ d. bits (λ k. test (on k d)) (10 - z d))
 
 pub ruleset marking = (marked-none, marked-turn, marked-small, marked-end)
-
--- tests that agree below n make the same mark
-bits-same : (p q : ℕ → Bool) (n : ℕ) → ((i : ℕ) → i < n → p i ≡ q i) → bits p n ≡ bits q n
-unfolding bits
-bits-same p q zero h = refl
-bits-same p q (suc n) h = rw (h 0 (omega arith), bits-same (λ i. p (suc i)) (λ i. q (suc i)) n (λ i l. h (suc i) (omega arith)))
 
 -- ---- the mark of a side
 pub beyond-small : (m : Measures) (s : ℕ) (side : Side) {t : ℕ} → t ≡ beyond m s side → s ≤ 10000 → m .rows < 256 → t ≤ 20000

@@ -1,15 +1,12 @@
 -- What scaling asks of measures and lists, and what follows for the numbers that its code reads and writes.
-use Prim.Native.Nat.{ℕ, zero, suc, _≤_, _<_}
-use native.Mathlib.Nat.{mul-le-mul, not-suc-le-zero, le-of-suc-le-suc}
-use mathlib.Core.Path.{_≡_, refl}
-use mathlib.Core.Bool.{not}
-use mathlib.Core.List.{List, [], _∷_}
-use lib.Dec.{eqb}
-use lib.ListN.{length, getD}
+use Prim.Native.Nat.{ℕ, _≤_, _<_}
+use native.Mathlib.Nat.{mul-le-mul}
+use mathlib.Core.Path.{_≡_}
+use mathlib.Core.List.{List}
+use lib.ListN.{length}
 use Rattle.model.specs.declared.Measures.{Measures}
 use Rattle.model.specs.declared.Landing.{Landing}
 use Rattle.model.specs.declared.CompassDir.{CompassDir}
-use Rattle.model.specs.Costs.{openAt}
 use Rattle.model.specs.Sectors.{sectors, cells}
 use Rattle.model.specs.Directions.{landing}
 use Rattle.fields.specs.Bounds.{landing-index, landing-east, landing-south}
@@ -33,10 +30,3 @@ pub record Landed (l : Landing) : Type 0 where
 
 pub landed : (i : ℕ) (d : CompassDir) (n : ℕ) {l : Landing} → l ≡ landing i d n → i < 100 → n ≤ 9 → Landed l
 landed i d n e on few = rw e (record { place = landing-index i d n on few; east = landing-east i d n on few; south = landing-south i d n on few })
-
--- a cost that stands in the list, whatever is read past its end
-pub open-in : (xs : List ℕ) (n : ℕ) → n < length xs → not (eqb (getD xs n 0) 255) ≡ openAt xs n
-unfolding openAt
-open-in [] n h = absurd (not-suc-le-zero h)
-open-in (x ∷ xs) zero h = refl
-open-in (x ∷ xs) (suc n) h = open-in xs n (le-of-suc-le-suc h)

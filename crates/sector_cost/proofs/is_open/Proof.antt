@@ -1,5 +1,5 @@
 -- `is_open` answers whether the cost that stands at a number is not 255.
-use Rattle.sector_cost.specs.Costs.{open-in}
+use Rattle.model.specs.CostsRead.{open-here}
 use borrow.Author.Needs.{needs}
 use Rattle.sector_cost.proofs.is_open.Statement.{statement}
 use Rattle.sector_cost.proofs.is_open.Tie as tie
@@ -8,7 +8,7 @@ shared-slice-read-result : tie.Need-shared-slice-read-result
 shared-slice-read-result c = search needs
 
 returns : tie.Need-returns
-returns c = open-in _ _ (search needs)
+returns c = open-here _ _ (search needs)
 
 pub is-open-spec : {M : Type 1} → statement M
 is-open-spec = tie.close (tie.spec shared-slice-read-result returns)

@@ -1,6 +1,6 @@
 -- `marks::open_at` meets its contract: inside the list by its element, and past its end by what counts there.
 use borrow.Author.Needs.{needs}
-use Rattle.portal.proofs.Places.{open-here, open-off}
+use Rattle.model.specs.CostsRead.{open-here, open-off}
 use Rattle.portal.proofs.marks.open_at.Statement.{statement}
 use Rattle.portal.proofs.marks.open_at.Tie as tie
 
