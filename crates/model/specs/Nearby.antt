@@ -1,8 +1,7 @@
 -- The nine places around a changed sector.
 use Prim.Native.Nat.{ℕ, zero, suc, _+_, _-_, _*_, _≤_, _<_}
-use native.Mathlib.Nat.{not-suc-le-zero, mul-le-mul, suc-mul, le-refl}
+use native.Mathlib.Nat.{mul-le-mul, suc-mul, le-refl}
 use native.Mathlib.Omega.{arith}
-use native.Mathlib.Numerals.{unary-clauses}
 use mathlib.Core.Path.{_≡_}
 use mathlib.Core.Bool.{true}
 use mathlib.Core.List.{List}
@@ -33,17 +32,6 @@ shifted-lt m s east south h =
 -- a step made for the sector at place k, if there is one
 abbrev pub atNearby : Measures → ℕ → (ℕ → List ℕ → List ℕ) → ℕ → List ℕ → List ℕ
 atNearby m t step k xs = pick (isThere m t k) (step (nearby m t k) xs) xs
-
--- place k, from 1 on, lies in direction k - 1
-pub nearby-from : (m : Measures) (t k : ℕ) → 1 ≤ k → nearby m t k ≡ shifted m t (eastward (compass (k - 1))) (southward (compass (k - 1)))
-unfolding nearby
-nearby-from m t zero h = absurd (not-suc-le-zero h)
-nearby-from m t (suc k) h = simp unary-clauses
-
-pub is-there-from : (m : Measures) (t k : ℕ) → 1 ≤ k → isThere m t k ≡ onFloor m t (eastward (compass (k - 1))) (southward (compass (k - 1)))
-unfolding isThere
-is-there-from m t zero h = absurd (not-suc-le-zero h)
-is-there-from m t (suc k) h = simp unary-clauses
 
 -- what is there is a sector of the floor
 pub nearby-lt : (m : Measures) (t k : ℕ) → t < sectors m → isThere m t k ≡ true → nearby m t k < sectors m

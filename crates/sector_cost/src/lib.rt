@@ -9,7 +9,7 @@ ghost use Rattle.model.specs.Costs.{openAt};
 ghost use Rattle.model.specs.Sectors.{sectors, floorNumber};
 ghost use Rattle.model.specs.Directions.{landing};
 ghost use Rattle.model.specs.Scaling.{isWall, blockStep, walk, scaleCell, scaleSector, scaleFloor};
-ghost use Rattle.model.specs.Change.{forNearby, resetSector, rescaled};
+ghost use Rattle.model.specs.Change.{resetSector, rescaled};
 ghost use Rattle.sector_cost.specs.Costs.{Costs, Landed};
 ghost use Rattle.model.specs.Nearby.{atNearby};
 use crate::nearby::is_there;
@@ -183,12 +183,13 @@ fn reset_place(m: Measures, base: &[u8], t: usize, k: usize, scaled: &mut [u8])
     }
 }
 
-fn reset_nearby(m: Measures, base: &[u8], t: usize, scaled: &mut [u8])
+// Resets the first n places around t.
+fn reset_nearby(m: Measures, base: &[u8], t: usize, n: usize, scaled: &mut [u8])
     requires { ⌜ Costs m (now base) × Costs m (now scaled) × (t < sectors m) ⌝ }
-    ensures { λ _. ⌜ now (scaled .exit) ≡ forNearby m t (resetSector (now (base .entry))) (now (scaled .entry)) ⌝ }
+    ensures { λ _. ⌜ now (scaled .exit) ≡ run (atNearby m t (resetSector (now (base .entry)))) n (now (scaled .entry)) ⌝ }
 {
     let mut k = 0;
-    while k < 9 {
+    while k < n {
         reset_place(m, base, t, k, scaled);
         k += 1;
     }
@@ -204,12 +205,13 @@ fn scale_place(m: Measures, base: &[u8], t: usize, k: usize, scaled: &mut [u8])
     }
 }
 
-fn scale_nearby(m: Measures, base: &[u8], t: usize, scaled: &mut [u8])
+// Rescales the first n places around t.
+fn scale_nearby(m: Measures, base: &[u8], t: usize, n: usize, scaled: &mut [u8])
     requires { ⌜ Costs m (now base) × Costs m (now scaled) × (t < sectors m) ⌝ }
-    ensures { λ _. ⌜ now (scaled .exit) ≡ forNearby m t (scaleSector m (now (base .entry))) (now (scaled .entry)) ⌝ }
+    ensures { λ _. ⌜ now (scaled .exit) ≡ run (atNearby m t (scaleSector m (now (base .entry)))) n (now (scaled .entry)) ⌝ }
 {
     let mut k = 0;
-    while k < 9 {
+    while k < n {
         scale_place(m, base, t, k, scaled);
         k += 1;
     }
@@ -220,6 +222,6 @@ pub fn rescale(m: Measures, base: &[u8], t: usize, scaled: &mut [u8])
     requires { ⌜ Costs m (now base) × Costs m (now scaled) × (t < sectors m) ⌝ }
     ensures { λ _. ⌜ now (scaled .exit) ≡ rescaled m (now (base .entry)) t (now (scaled .entry)) ⌝ }
 {
-    reset_nearby(m, base, t, scaled);
-    scale_nearby(m, base, t, scaled);
+    reset_nearby(m, base, t, 9, scaled);
+    scale_nearby(m, base, t, 9, scaled);
 }

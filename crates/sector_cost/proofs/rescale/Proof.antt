@@ -1,5 +1,5 @@
 -- `rescale` resets all nine places before it rescales any.
-use Rattle.model.specs.Change.{rescaled}
+use Rattle.model.specs.Change.{forNearby, rescaled}
 use borrow.Author.Needs.{needs}
 use Rattle.sector_cost.proofs.rescale.Statement.{statement}
 use Rattle.sector_cost.proofs.rescale.Tie as tie
@@ -14,7 +14,7 @@ same-length : tie.Need-same-length
 same-length c = search needs
 
 returns : tie.Need-returns
-unfolding rescaled
+unfolding rescaled forNearby
 returns c = let r = c .before .before in rw (r .scale-nearby .ensures, r .before .before .before .before .reset-nearby .ensures)
 
 pub rescale-spec : {M : Type 1} → statement M

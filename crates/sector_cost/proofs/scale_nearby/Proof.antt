@@ -1,18 +1,17 @@
--- `scale_nearby` is the run over the nine places.
+-- `scale_nearby` is the run over its places.
 use Prim.Native.Nat.{_-_}
 use Rattle.laws.specs.Fold.{Ran, counting}
 use Rattle.model.specs.Scaling.{scaleSector}
-use Rattle.model.specs.Change.{forNearby}
 use Rattle.model.specs.Nearby.{atNearby}
 use borrow.Author.Needs.{needs}
 use Rattle.sector_cost.proofs.scale_nearby.Statement.{statement}
 use Rattle.sector_cost.proofs.scale_nearby.Tie as tie
 
 abbrev Inv-loop : tie.InvT-loop
-Inv-loop m base t scaled₀ k₀ scaled k = Ran (atNearby m t (scaleSector m base)) 9 k scaled₀ scaled
+Inv-loop m base t n scaled₀ k₀ scaled k = Ran (atNearby m t (scaleSector m base)) n k scaled₀ scaled
 
 abbrev μ-loop : tie.MeasureT-loop
-μ-loop m base t scaled₀ k₀ scaled k = 9 - k
+μ-loop m base t n scaled₀ k₀ scaled k = n - k
 
 loop-holds : tie.Need-loop-holds Inv-loop μ-loop
 loop-holds c = search (needs, counting)
@@ -33,7 +32,6 @@ same-length : tie.Need-same-length Inv-loop μ-loop
 same-length c = search needs
 
 returns : tie.Need-returns Inv-loop μ-loop
-unfolding forNearby
 returns c = search (needs, counting)
 
 pub scale-nearby-spec : {M : Type 1} → statement M
