@@ -1,12 +1,15 @@
 #!/usr/bin/env bash
-# Holds the second reading of document 01 against the Rust of docs/src, in about a
-# minute. The last line has the counts; any difference makes the status non-zero.
+# Holds the proved library and the second reading of document 01 against the Rust of
+# docs/src, in about a minute once the library is proved. The last lines have the
+# counts; any difference makes the status non-zero.
 set -euo pipefail
 cd "$(dirname "${BASH_SOURCE[0]}")"
 bash install.sh
+(cd .. && rt staticlib hall_c | tail -n 1)
 export CARGO_TARGET_DIR="$PWD/target"
 
 cargo build --offline --release --quiet
 cargo test --offline --release --quiet --package petgraph_standin --test first_path
 cargo test --offline --release --quiet --manifest-path second/Cargo.toml --tests
-target/release/compare all --seed 1 --count 600 --routes 5 --changes 5 --threads 2
+target/release/compare all --router second --seed 1 --count 200 --routes 5 --changes 5 --threads 2
+target/release/compare all --router proved --seed 2 --count 400 --routes 5 --changes 5 --threads 2

@@ -46,6 +46,8 @@ pub struct Routed {
 pub trait Router: Sync {
     fn plan(&self, values: [f32; 4]) -> Measures;
     fn read_file(&self, file: &[u8], base: &mut [u8]) -> Measures;
+    /// The store check, which opens the calls on a store.
+    fn check_store(&self, store: &[u8]) -> u8;
     fn build(&self, measures: [u8; 3], base: &[u8], store: &mut [u8]) -> u8;
     fn change(&self, store: &mut [u8], floor_number: usize, cost: u8) -> u8;
     fn windows(&self, store: &[u8], sector: usize, list: &mut [Window]) -> Counted;

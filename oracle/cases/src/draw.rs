@@ -11,6 +11,7 @@ pub enum Use {
     File,
     Store,
     Damage,
+    Bytes,
 }
 
 /// A stream of numbers.

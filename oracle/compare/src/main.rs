@@ -1,11 +1,13 @@
 //! Holds a router against the Rust of docs/src, on seeded cases.
 
 mod best;
+mod bytes;
 mod damaged;
 mod floors;
 mod halls;
 mod options;
 mod plans;
+mod proved_router;
 mod refusals;
 mod report;
 mod routes;
@@ -17,7 +19,8 @@ mod trial;
 use std::process::ExitCode;
 
 use calls::Router;
-use options::{Command, Options};
+use options::{Answering, Command, Options};
+use proved_router::Proved;
 use report::Report;
 use sabotage::Sabotaged;
 use second_router::Second;
@@ -45,33 +48,46 @@ fn main() -> ExitCode {
 }
 
 /// The parts of a whole comparison.
-const PARTS: [Command; 5] = [
+const PARTS: [Command; 6] = [
     Command::Floors,
     Command::Halls,
     Command::Lent,
     Command::Plans,
     Command::Damaged,
+    Command::Bytes,
 ];
 
 /// Runs every part and the self-check, with one line about all of it at the end.
 fn all(options: &Options) -> bool {
     let mut whole = Report::default();
     for command in PARTS {
+        // The second reading is not held against itself.
+        if command == Command::Bytes && options.router == Answering::Second {
+            continue;
+        }
         let part = options.part(command, options.count);
         let report = run(&part);
         report.print(&part);
         whole.take_in(report);
     }
     let checked = sabotage::selfcheck(options);
-    println!("compare all: {}", whole.line());
+    println!(
+        "compare all, router {}: {}",
+        options.router.name(),
+        whole.line()
+    );
     checked && whole.differences.is_empty()
 }
 
 /// Runs all cases that the options ask for.
 fn run(options: &Options) -> Report {
+    let router: &dyn Router = match options.router {
+        Answering::Second => &Second,
+        Answering::Proved => &Proved,
+    };
     match options.sabotage {
-        Some(kind) => run_with(&Sabotaged { kind }, options),
-        None => run_with(&Second, options),
+        Some(kind) => run_with(&Sabotaged { kind, router }, options),
+        None => run_with(router, options),
     }
 }
 
@@ -81,6 +97,7 @@ fn run_with(router: &dyn Router, options: &Options) -> Report {
         Command::Lent => halls::lent(router, options, case, report),
         Command::Plans => plans::compare(router, options, case, report),
         Command::Damaged => damaged::compare(router, options, case, report),
+        Command::Bytes => bytes::compare(router, options, case, report),
         Command::Floors => floors::compare(router, case, report),
         Command::Selfcheck | Command::All => unreachable!("these run the others"),
     })

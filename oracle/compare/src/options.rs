@@ -7,9 +7,11 @@ compare halls     built halls: stores, windows, changes, routes, program
 compare lent      lent stores: windows, changes, routes
 compare plans     plans
 compare damaged   damaged files and stores, and every argument out of range
+compare bytes     damaged files and stores, every lent byte against the second reading
 compare floors    the floors that document 01 lists, and a few more
 compare selfcheck every sabotage is reported
 compare all       all of these, with one last line
+  --router R    who answers: second or proved (second)
   --seed S      the seed (1)
   --first N     the first case (0)
   --count N     how many cases (100)
@@ -17,7 +19,7 @@ compare all       all of these, with one last line
   --changes K   changes of each hall (5)
   --threads T   1 or 2 (1)
   --sabotage K  spoils the answers on purpose: tie, midpoint, target, mark, windows,
-                leg, run, none, tail, refused, file, plan, program";
+                leg, run, none, tail, refused, file, plan, program, check, spare";
 
 /// What is compared.
 #[derive(Clone, Copy, PartialEq, Eq)]
@@ -26,16 +28,25 @@ pub enum Command {
     Lent,
     Plans,
     Damaged,
+    Bytes,
     Floors,
     Selfcheck,
     All,
 }
 
-const COMMANDS: [(&str, Command); 7] = [
+/// Who answers 01's calls: the second reading or the proved library.
+#[derive(Clone, Copy, PartialEq, Eq)]
+pub enum Answering {
+    Second,
+    Proved,
+}
+
+const COMMANDS: [(&str, Command); 8] = [
     ("halls", Command::Halls),
     ("lent", Command::Lent),
     ("plans", Command::Plans),
     ("damaged", Command::Damaged),
+    ("bytes", Command::Bytes),
     ("floors", Command::Floors),
     ("selfcheck", Command::Selfcheck),
     ("all", Command::All),
@@ -44,6 +55,7 @@ const COMMANDS: [(&str, Command); 7] = [
 #[derive(Clone)]
 pub struct Options {
     pub command: Command,
+    pub router: Answering,
     pub seed: u64,
     pub first: u64,
     pub count: u64,
@@ -57,6 +69,7 @@ impl Options {
     fn new(command: Command) -> Self {
         Options {
             command,
+            router: Answering::Second,
             seed: 1,
             first: 0,
             count: 100,
@@ -84,6 +97,7 @@ impl Options {
     fn set(&mut self, name: &str, value: &str) -> Result<(), String> {
         let number = || value.parse::<u64>().map_err(|_| format!("{name} {value}"));
         match name {
+            "--router" => self.router = Answering::named(value)?,
             "--seed" => self.seed = number()?,
             "--first" => self.first = number()?,
             "--count" => self.count = number()?,
@@ -112,5 +126,22 @@ impl Options {
     pub fn name(&self) -> &'static str {
         let command = COMMANDS.iter().find(|command| command.1 == self.command);
         command.map_or("", |command| command.0)
+    }
+}
+
+impl Answering {
+    fn named(name: &str) -> Result<Self, String> {
+        match name {
+            "second" => Ok(Answering::Second),
+            "proved" => Ok(Answering::Proved),
+            _ => Err(format!("no router {name}")),
+        }
+    }
+
+    pub fn name(self) -> &'static str {
+        match self {
+            Answering::Second => "second",
+            Answering::Proved => "proved",
+        }
     }
 }

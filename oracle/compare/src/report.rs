@@ -63,6 +63,7 @@ impl Report {
             "routes asked",
             "plans",
             "damaged cases",
+            "cases of damaged bytes",
         ] {
             let number = self.counts.get(what).unwrap_or(&0);
             line.push_str(&format!("{number} {what}, "));
@@ -72,9 +73,9 @@ impl Report {
 
     /// Counts, differences, and the command that shows the smallest difference.
     pub fn print(&self, options: &Options) {
-        let (name, seed) = (options.name(), options.seed);
+        let (name, router, seed) = (options.name(), options.router.name(), options.seed);
         println!(
-            "{name}, seed {seed}, cases {} from {}",
+            "{name}, router {router}, seed {seed}, cases {} from {}",
             options.count, options.first
         );
         for (what, number) in &self.counts {
@@ -98,7 +99,8 @@ impl Report {
                 ..
             } = smallest;
             println!("  smallest: case {case}: {}", smallest.text);
-            print!("  to see it: compare {name} --seed {seed} --first {case} --count 1");
+            print!("  to see it: compare {name} --router {router} --seed {seed}");
+            print!(" --first {case} --count 1");
             println!(" --routes {routes} --changes {changes}");
         }
         println!("{name}: {} differences", self.differences.len());

@@ -4,7 +4,6 @@ use calls::{Counted, Judge, Measures, Routed, Router, Step, Window};
 use reference_petgraph::Hall as Petgraph;
 
 use crate::options::{Command, Options};
-use crate::second_router::Second;
 
 /// What is spoiled.
 #[derive(Clone, Copy, PartialEq, Eq, Debug)]
@@ -22,9 +21,11 @@ pub enum Sabotage {
     File,
     Plan,
     Program,
+    Check,
+    Spare,
 }
 
-const KINDS: [(&str, Sabotage, Command); 13] = [
+const KINDS: [(&str, Sabotage, Command); 15] = [
     ("tie", Sabotage::Tie, Command::Halls),
     ("midpoint", Sabotage::Midpoint, Command::Halls),
     ("target", Sabotage::Target, Command::Halls),
@@ -38,6 +39,8 @@ const KINDS: [(&str, Sabotage, Command); 13] = [
     ("file", Sabotage::File, Command::Damaged),
     ("plan", Sabotage::Plan, Command::Plans),
     ("program", Sabotage::Program, Command::Damaged),
+    ("check", Sabotage::Check, Command::Bytes),
+    ("spare", Sabotage::Spare, Command::Bytes),
 ];
 
 impl Sabotage {
@@ -47,14 +50,19 @@ impl Sabotage {
     }
 }
 
-/// Cases that are enough to meet every sabotage.
-const CASES: u64 = 40;
+/// Cases that are enough to meet every sabotage: of damage few come to the number that is spoiled.
+fn cases(command: Command) -> u64 {
+    match command {
+        Command::Damaged | Command::Bytes => 300,
+        _ => 40,
+    }
+}
 
 /// Runs each sabotage; good if every one is reported.
 pub fn selfcheck(options: &Options) -> bool {
     let mut reported = 0;
     for (name, kind, command) in KINDS {
-        let mut options = options.part(command, CASES);
+        let mut options = options.part(command, cases(command));
         options.sabotage = Some(kind);
         let differences = crate::run(&options).differences.len();
         println!(
@@ -70,14 +78,15 @@ pub fn selfcheck(options: &Options) -> bool {
     reported == KINDS.len()
 }
 
-/// The second reading with one kind of answer spoiled.
-pub struct Sabotaged {
+/// A router with one kind of answer spoiled.
+pub struct Sabotaged<'a> {
     pub kind: Sabotage,
+    pub router: &'a dyn Router,
 }
 
-impl Router for Sabotaged {
+impl Router for Sabotaged<'_> {
     fn plan(&self, values: [f32; 4]) -> Measures {
-        let mut answer = Second.plan(values);
+        let mut answer = self.router.plan(values);
         // The exact quotient rounded up, in place of the rounded one.
         let exact = (f64::from(values[3]) / f64::from(values[2])).ceil();
         if self.kind == Sabotage::Plan && answer.number == 0 {
@@ -87,15 +96,22 @@ impl Router for Sabotaged {
     }
 
     fn read_file(&self, file: &[u8], base: &mut [u8]) -> Measures {
-        let answer = Second.read_file(file, base);
+        let answer = self.router.read_file(file, base);
         if self.kind == Sabotage::File && answer.number == 15 {
             base.fill(1);
         }
         answer
     }
 
+    fn check_store(&self, store: &[u8]) -> u8 {
+        match self.router.check_store(store) {
+            20 if self.kind == Sabotage::Check => 0,
+            number => number,
+        }
+    }
+
     fn build(&self, measures: [u8; 3], base: &[u8], store: &mut [u8]) -> u8 {
-        let number = Second.build(measures, base, store);
+        let number = self.router.build(measures, base, store);
         let (scaled, marks) = (4 + base.len(), 4 + 2 * base.len());
         if number != 0 {
             return number;
@@ -110,7 +126,7 @@ impl Router for Sabotaged {
     }
 
     fn change(&self, store: &mut [u8], floor_number: usize, cost: u8) -> u8 {
-        let number = Second.change(store, floor_number, cost);
+        let number = self.router.change(store, floor_number, cost);
         if self.kind == Sabotage::Refused && number == 22 {
             store[4 + floor_number] = cost;
         }
@@ -118,15 +134,17 @@ impl Router for Sabotaged {
     }
 
     fn windows(&self, store: &[u8], sector: usize, list: &mut [Window]) -> Counted {
-        let answer = Second.windows(store, sector, list);
-        if self.kind == Sabotage::Windows && answer.count > 1 {
-            list.swap(0, 1);
+        let answer = self.router.windows(store, sector, list);
+        match (self.kind, usize::from(answer.count)) {
+            (Sabotage::Windows, 2..) => list.swap(0, 1),
+            (Sabotage::Spare, count) if count < list.len() => list[count] = Window::default(),
+            _ => {}
         }
         answer
     }
 
     fn route(&self, store: &[u8], source: usize, goal: usize, list: &mut [Step]) -> Routed {
-        let mut answer = Second.route(store, source, goal, list);
+        let mut answer = self.router.route(store, source, goal, list);
         let (length, over_portals) = (answer.steps as usize, answer.steps > 1);
         match self.kind {
             Sabotage::Tie if over_portals => {
@@ -143,7 +161,7 @@ impl Router for Sabotaged {
     }
 
     fn hallroute(&self, input: &[u8]) -> Vec<u8> {
-        let mut lines = Second.hallroute(input);
+        let mut lines = self.router.hallroute(input);
         if self.kind == Sabotage::Program && lines.ends_with(b"cut\n") {
             lines.truncate(lines.len() - 4);
         }

@@ -25,6 +25,10 @@ impl Router for Second {
         }
     }
 
+    fn check_store(&self, store: &[u8]) -> u8 {
+        second::check_store(store)
+    }
+
     fn build(&self, [columns, rows, scale]: [u8; 3], base: &[u8], store: &mut [u8]) -> u8 {
         second::build(columns, rows, scale, base, store)
     }

@@ -1,0 +1,65 @@
+-- What windows answers and leaves in the list, in the shapes of its returns.
+use mathlib.Core.Path.{_≡_, refl, sym, ap, _∙_}
+use mathlib.Core.List.{List}
+use Prim.Native.Nat.{ℕ, zero, suc, _*_, _/_, _≤_, _<_}
+use native.Mathlib.Omega.{arith}
+use lib.Dec.{leb, ltb}
+use lib.ListN.{length, drop}
+use borrow.Author.Tests.{le-leb, lt-leb, lt-ltb, le-ltb}
+use Rattle.laws.specs.Ladder.{refuse}
+use Rattle.model.specs.declared.Measures.{Measures}
+use Rattle.model.specs.declared.Listed.the-variants.{Windows, Refused}
+use Rattle.model.specs.Sectors.{sectors}
+use Rattle.model.specs.Store.{measuresAt, marksIn, decode}
+use Rattle.model.specs.Calls.{orElse, ifAccepted, checkNumber, windowsOf, flatWindows, windowsNumber, listed, windowsAnswer, windowsFlat}
+use Rattle.store.specs.Checks.{Checked}
+use Rattle.portal.specs.Listing.{windowsBy, FourMarks, over, few-by}
+use Rattle.hall.specs.Marks.{sectorMarks}
+use Rattle.hall.proofs.Passed.{refused-first, none, passed, four-marks, windows-are}
+
+module _ (st : List ℕ) (s : ℕ) (list : List ℕ) where
+  -- what a number answers
+  refused : (n : ℕ) → 0 < n → n ≡ windowsNumber st s (length list / 3) → (Refused n ≡ windowsAnswer st s (length list / 3)) × (list ≡ windowsFlat st s list)
+  unfolding windowsAnswer windowsFlat listed ifAccepted
+  refused zero h e = absurd (omega arith)
+  refused (suc n) h e = (rw (← e), rw (← e))
+
+  module _ {r : ℕ} (is : r ≡ checkNumber st) where
+    pub refused-store : 0 < r → (Refused r ≡ windowsAnswer st s (length list / 3)) × (list ≡ windowsFlat st s list)
+    unfolding windowsNumber
+    refused-store h = refused r h (rw (← is) (refused-first r _ h))
+
+    module _ (z : r ≤ 0) {m : Measures} (read : m ≡ measuresAt st) {n : ℕ} (all : n ≡ sectors m) where
+      pub refused-26 : n ≤ s → (Refused 26 ≡ windowsAnswer st s (length list / 3)) × (list ≡ windowsFlat st s list)
+      unfolding windowsNumber orElse refuse
+      refused-26 h = let e : n ≡ sectors (measuresAt st) = all ∙ ap sectors read in refused 26 (omega arith) (rw (← is, none z, ← e, le-leb n s h))
+
+      module _ (on : s < n) {marks : List ℕ} (are : marks ≡ sectorMarks (marksIn m st) s) where
+        pub four : FourMarks marks
+        four = four-marks s read (passed is z) (omega arith) are
+
+        number : windowsNumber st s (length list / 3) ≡ refuse (ltb (length list / 3) (length (windowsBy marks 4))) 27 0
+        unfolding windowsNumber orElse refuse
+        number =
+            let e : n ≡ sectors (measuresAt st) = all ∙ ap sectors read in
+            rw (← is, none z, ← e, lt-leb n s on, windows-are s read (passed is z) (omega arith) are)
+
+        pub refused-27 : {count : ℕ} → (FourMarks marks → count ≡ length (windowsBy marks 4)) → length list / 3 < count → (Refused 27 ≡ windowsAnswer st s (length list / 3)) × (list ≡ windowsFlat st s list)
+        unfolding refuse
+        refused-27 c h = refused 27 (omega arith) (sym (number ∙ rw (lt-ltb (length list / 3) (length (windowsBy marks 4)) (omega (arith, c four)))))
+
+        module _ {count : ℕ} (c : FourMarks marks → count ≡ length (windowsBy marks 4)) (room : count ≤ length list / 3) where
+          pub room-listed : 3 * length (windowsBy marks 4) ≤ length list
+          room-listed = omega (arith, c four)
+
+          pub few-listed : {found : ℕ} → found ≡ length (windowsBy marks 4) → found < 256
+          few-listed e = omega (arith, few-by four 4 (omega arith))
+
+          pub listed-all : {found byte : ℕ} {out : List ℕ} → byte ≡ found → found ≡ length (windowsBy marks 4) → out ≡ over (windowsBy marks 4) list → (Windows byte ≡ windowsAnswer st s (length list / 3)) × (out ≡ windowsFlat st s list)
+          unfolding windowsAnswer windowsFlat refuse listed ifAccepted
+          listed-all b e o =
+              let zero : windowsNumber st s (length list / 3) ≡ 0 = number ∙ rw (le-ltb (length list / 3) (length (windowsBy marks 4)) (omega (arith, c four))) in
+              let w = windows-are s read (passed is z) (omega arith) are in
+              (rw (zero, w, b, e), rw (zero, w, o))
+
+pub ruleset listing = (four, room-listed, few-listed)

@@ -1,0 +1,5 @@
+// The public calls of a hall, each for every input: document 01, "Calls and their numbers, in order".
+pub mod file;
+pub mod marks;
+pub mod plan;
+pub mod windows;

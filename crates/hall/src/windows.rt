@@ -1,0 +1,33 @@
+// The windows call.
+ghost use mathlib.Core.Path.{_≡_};
+ghost use Prim.Native.Nat.{_/_};
+ghost use lib.ListN.{length};
+ghost use Rattle.model.specs.Calls.{windowsAnswer, windowsFlat};
+use crate::marks::sector_marks;
+use fields::numbers::byte;
+use fields::sectors::sectors;
+use model::Listed;
+use portal::listing::sector_windows;
+use portal::listing::windows_number;
+use store::bytes::measures_at;
+use store::check::check_store;
+
+// Lists the windows of a sector, N, E, S, W, three bytes each: first cell, last cell and side. A refusal leaves the list as it was.
+pub fn windows(st: &[u8], sector: usize, list: &mut [u8]) -> Listed
+    ensures answer { λ r. ⌜ r ≡ windowsAnswer (now (st .entry)) sector (length (now (list .entry)) / 3) ⌝ }
+    ensures listed { λ _. ⌜ now (list .exit) ≡ windowsFlat (now (st .entry)) sector (now (list .entry)) ⌝ }
+{
+    let no = check_store(st);
+    if 0 < no {
+        return Listed::Refused(no);
+    }
+    let m = measures_at(st);
+    if sectors(m) <= sector {
+        return Listed::Refused(26);
+    }
+    let marks = sector_marks(st, m, sector);
+    if list.len() / 3 < windows_number(marks) {
+        return Listed::Refused(27);
+    }
+    Listed::Windows(byte(sector_windows(list, marks)))
+}

@@ -1,0 +1,17 @@
+-- 01's number and values of each answer, as the structs that the calls for C return.
+use lib.Ieee.{Float}
+use Rattle.model.specs.declared.Dimensions.{Dimensions}
+use Rattle.model.specs.declared.Measured.{Measured}
+use Rattle.model.specs.declared.Listed.{Listed}
+use Rattle.model.specs.Calls.{measuredNumber, measuredValues, listedNumber, listedCount}
+use Rattle.hall_c.specs.declared.MeasuresAnswer.{MeasuresAnswer}
+use Rattle.hall_c.specs.declared.WindowsAnswer.{WindowsAnswer}
+
+abbrev pub dimensions : Float → Float → Float → Float → Dimensions
+dimensions x y unit radius = record { «size_x» = x; «size_y» = y; unit = unit; radius = radius }
+
+abbrev pub flatMeasures : Measured → MeasuresAnswer
+flatMeasures a = record { number = measuredNumber a; columns = measuredValues a .columns; rows = measuredValues a .rows; scale = measuredValues a .scale }
+
+abbrev pub flatWindows : Listed → WindowsAnswer
+flatWindows a = record { number = listedNumber a; count = listedCount a }

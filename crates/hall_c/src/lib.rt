@@ -1,0 +1,96 @@
+// The calls of document 01 for C, C++ and Rust, on numbers and lent bytes. A slice is two arguments there: the bytes, and how many they are.
+ghost use mathlib.Core.Path.{_≡_};
+ghost use Prim.Native.Nat.{_/_};
+ghost use lib.ListN.{length};
+ghost use Rattle.model.specs.Calls.{planAnswer, readAnswer, readInto, checkNumber, windowsAnswer, windowsFlat};
+ghost use Rattle.hall_c.specs.Answers.{dimensions, flatMeasures, flatWindows};
+use hall::file::read_file;
+use hall::plan::plan;
+use hall::windows::windows;
+use model::Dimensions;
+use model::Listed;
+use model::Measured;
+use store::check::check_store;
+
+// What plan and read file answer: 01's number, and the measures, which are 0 where it is a refusal.
+#[repr(C)]
+pub struct MeasuresAnswer {
+    pub number: u8,
+    pub columns: u8,
+    pub rows: u8,
+    pub scale: u8,
+}
+
+// What windows answers: 01's number, and how many there are, which is 0 where it is a refusal.
+#[repr(C)]
+pub struct WindowsAnswer {
+    pub number: u8,
+    pub count: u8,
+}
+
+fn flat_measures(answer: Measured) -> MeasuresAnswer
+    ensures { λ r. ⌜ r ≡ flatMeasures answer ⌝ }
+{
+    match answer {
+        Measured::Accepted(m) => MeasuresAnswer {
+            number: 0,
+            columns: m.columns,
+            rows: m.rows,
+            scale: m.scale,
+        },
+        Measured::Refused(number) => MeasuresAnswer {
+            number,
+            columns: 0,
+            rows: 0,
+            scale: 0,
+        },
+    }
+}
+
+fn flat_windows(answer: Listed) -> WindowsAnswer
+    ensures { λ r. ⌜ r ≡ flatWindows answer ⌝ }
+{
+    match answer {
+        Listed::Windows(count) => WindowsAnswer { number: 0, count },
+        Listed::Refused(number) => WindowsAnswer { number, count: 0 },
+    }
+}
+
+// A hall's columns, rows and scale from its sizes, unit and radius.
+#[no_mangle]
+pub extern "C" fn hall_plan(size_x: f32, size_y: f32, unit: f32, radius: f32) -> MeasuresAnswer
+    ensures { λ r. ⌜ r ≡ flatMeasures (planAnswer (dimensions «size_x» «size_y» unit radius)) ⌝ }
+{
+    flat_measures(plan(Dimensions {
+        size_x,
+        size_y,
+        unit,
+        radius,
+    }))
+}
+
+// Reads a hall file into a lent list of base costs.
+#[no_mangle]
+pub extern "C" fn hall_read_file(file: &[u8], base: &mut [u8]) -> MeasuresAnswer
+    ensures answer { λ r. ⌜ r ≡ flatMeasures (readAnswer (now (file .entry)) (length (now (base .entry)))) ⌝ }
+    ensures filled { λ _. ⌜ now (base .exit) ≡ readInto (now (file .entry)) (now (base .entry)) ⌝ }
+{
+    flat_measures(read_file(file, base))
+}
+
+// The number of the first refusal that applies to a store, or 0.
+#[no_mangle]
+pub extern "C" fn hall_check_store(store: &[u8]) -> u8
+    ensures { λ r. ⌜ r ≡ checkNumber (now (store .entry)) ⌝ }
+{
+    check_store(store)
+}
+
+// Lists the windows of a sector, N, E, S, W, three bytes each: first cell, last cell and side.
+#[no_mangle]
+pub extern "C" fn hall_windows(store: &[u8], sector: usize, list: &mut [u8]) -> WindowsAnswer
+    ensures answer { λ r. ⌜ r ≡ flatWindows (windowsAnswer (now (store .entry)) sector (length (now (list .entry)) / 3)) ⌝ }
+    ensures listed { λ _. ⌜ now (list .exit) ≡ windowsFlat (now (store .entry)) sector (now (list .entry)) ⌝ }
+{
+    flat_windows(windows(store, sector, list))
+}

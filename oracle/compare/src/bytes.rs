@@ -1,0 +1,98 @@
+//! Damaged files and stores, call for call against the second reading: each answer
+//! and every byte that was lent.
+
+use calls::{Router, Window};
+use cases::draw::{Draw, Use};
+use cases::{damage, files, halls, stores};
+
+use crate::options::Options;
+use crate::report::{Difference, Report};
+use crate::second_router::Second;
+use crate::trial::OLD_WINDOW;
+
+/// One case with its stream of numbers.
+struct Bytes<'a> {
+    router: &'a dyn Router,
+    seed: u64,
+    case: u64,
+    draw: Draw,
+}
+
+pub fn compare(router: &dyn Router, options: &Options, case: u64, report: &mut Report) {
+    let mut bytes = Bytes {
+        router,
+        seed: options.seed,
+        case,
+        draw: Draw::new(options.seed, case, Use::Bytes),
+    };
+    report.count("cases of damaged bytes", 1);
+    bytes.file(report);
+    bytes.store(report);
+}
+
+impl Bytes<'_> {
+    /// Reports answers or lent bytes that differ.
+    fn check<T: PartialEq + std::fmt::Debug>(
+        &self,
+        call: &str,
+        number: u8,
+        (given, owed): (T, T),
+        report: &mut Report,
+    ) {
+        report.count(format!("{call} with number {number}"), 1);
+        if given != owed {
+            report.differences.push(Difference {
+                sectors: halls::hall(self.seed, self.case).sectors(),
+                case: self.case,
+                changes: 0,
+                routes: 0,
+                text: format!("{call}: {given:?}, second {owed:?}"),
+            });
+        }
+    }
+
+    fn file(&mut self, report: &mut Report) {
+        let hall = halls::hall(self.seed, self.case);
+        let mut file = files::file(&hall, &mut self.draw);
+        damage::damage(&mut file, &mut self.draw);
+        let cells = hall.floor.costs.len();
+        let length = self.draw.pick(&[cells, cells, cells, cells - 1, cells + 1]);
+        let mut lent = [vec![77; length], vec![77; length]];
+        let given = self.router.read_file(&file, &mut lent[0]);
+        let owed = Second.read_file(&file, &mut lent[1]);
+        let pair = ((given, &lent[0]), (owed, &lent[1]));
+        self.check("read file", owed.number, pair, report);
+    }
+
+    fn store(&mut self, report: &mut Report) {
+        let (mut store, floor) = stores::store(self.seed, self.case);
+        let sectors = floor.costs.len() / 100;
+        damage::damage(&mut store, &mut self.draw);
+        if self.draw.percent(30) {
+            self.spoil_mark(&mut store, sectors);
+        }
+        let pair = (self.router.check_store(&store), Second.check_store(&store));
+        self.check("store check", pair.1, pair, report);
+        for sector in 0..=sectors {
+            let room = self.draw.below(21);
+            self.windows(&store, sector, room, report);
+        }
+        self.windows(&store, usize::MAX, 20, report);
+    }
+
+    /// Any bits in one of the marks.
+    fn spoil_mark(&mut self, store: &mut [u8], sectors: usize) {
+        let at = 4 + 200 * sectors + self.draw.below(8 * sectors);
+        if let Some(byte) = store.get_mut(at) {
+            *byte = self.draw.bits() as u8;
+        }
+    }
+
+    fn windows(&self, store: &[u8], sector: usize, room: usize, report: &mut Report) {
+        let mut lent: [Vec<Window>; 2] = [vec![OLD_WINDOW; room], vec![OLD_WINDOW; room]];
+        let given = self.router.windows(store, sector, &mut lent[0]);
+        let owed = Second.windows(store, sector, &mut lent[1]);
+        let pair = ((given, &lent[0]), (owed, &lent[1]));
+        self.check("windows", owed.number, pair, report);
+    }
+}

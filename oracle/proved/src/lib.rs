@@ -1,0 +1,59 @@
+//! The calls that crate `hall_c` exports, behind safe functions.
+
+/// What plan and read file answer; a refusal has no measures.
+#[repr(C)]
+#[derive(Clone, Copy, PartialEq, Eq, Debug)]
+pub struct MeasuresAnswer {
+    pub number: u8,
+    pub columns: u8,
+    pub rows: u8,
+    pub scale: u8,
+}
+
+/// What windows answers; a refusal has count 0.
+#[repr(C)]
+#[derive(Clone, Copy, PartialEq, Eq, Debug)]
+pub struct WindowsAnswer {
+    pub number: u8,
+    pub count: u8,
+}
+
+// A slice of the library's is two arguments here: where it begins, and its length.
+unsafe extern "C" {
+    safe fn hall_plan(size_x: f32, size_y: f32, unit: f32, radius: f32) -> MeasuresAnswer;
+    fn hall_read_file(
+        file: *const u8,
+        file_length: usize,
+        base: *mut u8,
+        base_length: usize,
+    ) -> MeasuresAnswer;
+    fn hall_check_store(store: *const u8, store_length: usize) -> u8;
+    fn hall_windows(
+        store: *const u8,
+        store_length: usize,
+        sector: usize,
+        list: *mut u8,
+        list_length: usize,
+    ) -> WindowsAnswer;
+}
+
+pub fn plan([size_x, size_y, unit, radius]: [f32; 4]) -> MeasuresAnswer {
+    hall_plan(size_x, size_y, unit, radius)
+}
+
+pub fn read_file(file: &[u8], base: &mut [u8]) -> MeasuresAnswer {
+    // SAFETY: both slices are lent whole for the time of the call, and their lengths with them.
+    unsafe { hall_read_file(file.as_ptr(), file.len(), base.as_mut_ptr(), base.len()) }
+}
+
+pub fn check_store(store: &[u8]) -> u8 {
+    // SAFETY: the slice is lent whole for the time of the call, and its length with it.
+    unsafe { hall_check_store(store.as_ptr(), store.len()) }
+}
+
+/// The list takes three bytes a window: first cell, last cell and side.
+pub fn windows(store: &[u8], sector: usize, list: &mut [u8]) -> WindowsAnswer {
+    let (lent, room) = (list.as_mut_ptr(), list.len());
+    // SAFETY: both slices are lent whole for the time of the call, and their lengths with them.
+    unsafe { hall_windows(store.as_ptr(), store.len(), sector, lent, room) }
+}
