@@ -4,15 +4,40 @@ use native.Mathlib.Numerals.{add-one}
 use native.Mathlib.Decide.{ℕ-discrete}
 use native.Mathlib.Omega.{arith}
 use mathlib.Core.Path.{_≡_, refl, sym, ap, _∙_}
+use mathlib.Core.Bool.{Bool, true, false, _&&_}
 use mathlib.Core.List.{List, [], _∷_, _++_, append-assoc}
 use lib.ListN.{getD, length, set, drop, length-append, length-drop}
 use lib.Seq.{drop-cons, set-at}
-use borrow.Author.Tests.{eq-eqb, ne-eqb}
+use lib.Dec.{ltb, eqb}
+use borrow.Author.Tests.{ltb-true, lt-ltb, eqb-true, eq-eqb, ne-eqb}
+use Rattle.laws.specs.Fold.{pick}
 use Rattle.laws.specs.Graph.{Graph, Sound, Settled, turned}
-use Rattle.laws.specs.FirstPath.{Trail, ends, goes, tight, closer, next, path, path-trail}
+use Rattle.laws.specs.FirstPath.{Trail, ends, goes, tight, better, closer, next, path, path-trail}
 
 -- ---- the next node
 module _ (g : Graph) (rank : ℕ → ℕ) (d : List ℕ) (u : ℕ) where
+  -- arc e changes nothing: it is not on a least-cost path, or leads to no better node
+  pub next-skip : (e b : ℕ) → (0 < g .weight e → getD d u 0 ≡ getD d (g .head e) 0 + g .weight e → better g rank (g .head e) b ≡ true → ⊥) → b ≡ closer g rank d u e b
+  unfolding closer tight
+  next-skip e b h = go (eqb (g .tail e) u) (ltb 0 w) (eqb (getD d u 0) y) (better g rank (g .head e) b) refl refl refl
+    where
+      w : ℕ
+      w = g .weight e
+
+      y : ℕ
+      y = getD d (g .head e) 0 + g .weight e
+
+      go : (p q r t : Bool) → ltb 0 w ≡ q → eqb (getD d u 0) y ≡ r → better g rank (g .head e) b ≡ t → b ≡ pick ((p && (q && r)) && t) (g .head e) b
+      go false q r t x z k = refl
+      go true false r t x z k = refl
+      go true true false t x z k = refl
+      go true true true false x z k = refl
+      go true true true true x z k = absurd (h (ltb-true 0 w x) (eqb-true (getD d u 0) y z) k)
+
+  pub next-take : (e b : ℕ) → g .tail e ≡ u → 0 < g .weight e → getD d u 0 ≡ getD d (g .head e) 0 + g .weight e → better g rank (g .head e) b ≡ true → g .head e ≡ closer g rank d u e b
+  unfolding closer tight
+  next-take e b t p q r = rw (eq-eqb (g .tail e) u t, lt-ltb 0 (g .weight e) p, eq-eqb (getD d u 0) (getD d (g .head e) 0 + g .weight e) q, r)
+
   -- one arc more
   pub next-suc : (e b r : ℕ) → b ≡ next g rank d u e → r ≡ closer g rank d u e b → r ≡ next g rank d u (e + 1)
   unfolding next

@@ -1,0 +1,105 @@
+-- The weights of the portal graph as one list by arc number, and the graph that such a list stands for.
+use Prim.Native.Nat.{ℕ, _+_, _*_, _/_, _%_, _≤_, _<_}
+use native.Mathlib.Decide.{ℕ-discrete}
+use native.Mathlib.Omega.{arith}
+use mathlib.Core.Path.{_≡_, sym, ap, subst, _∙_}
+use mathlib.Core.Logic.{_⊎_, inl, inr}
+use mathlib.Core.List.{List, []}
+use lib.ListN.{length, getD, set, length-set, List·getD-eq-default}
+use lib.Seq.{ext-getD, getD-set-same, getD-set-other}
+use Rattle.laws.specs.Table.{tabulate, length-tabulate, tabulate-at}
+use Rattle.laws.specs.Graph.{Graph, Sound, BothWays, below-or}
+use Rattle.model.specs.declared.Measures.{Measures}
+use Rattle.model.specs.declared.Side.{Side}
+use Rattle.model.specs.Cells.{sideNumber}
+use Rattle.model.specs.Sectors.{sectors}
+use Rattle.model.specs.Halls.{Hall, markAt}
+use Rattle.model.specs.Portals.{facing, headOf, edgesOf, edges, portalGraph}
+use Rattle.model.specs.LeastPathFirst.{Fits, portal-sound}
+use Rattle.model.specs.Store.{measuresAt, marksIn, decode}
+use Rattle.store.specs.Checks.{Checked, few-sectors}
+use Rattle.model.specs.StoreLayout.{decode-laid}
+use Rattle.route.specs.Across.{portal-both-ways}
+
+-- a hall of these measures with nothing in it: which portals face each other goes by the measures alone
+abbrev pub bare : Measures → Hall
+bare m = record { measures = m; base = []; scaled = []; marks = [] }
+
+-- the weights of a hall's portal graph
+unfoldable pub edgeTable : Hall → List ℕ
+edgeTable h = tabulate (λ e. portalGraph h .weight e) (sectors (h .measures) * 400) 0
+
+-- the graph that has its weights from a list
+abbrev pub tableGraph : Measures → List ℕ → Graph
+tableGraph m table = record {
+  nodes = sectors m * 20;
+  arcs = sectors m * 400;
+  tail = λ e. e / 20;
+  head = λ e. headOf (bare m) (e / 20) (e % 20);
+  weight = λ e. getD table e 0;
+}
+
+-- ---- the graph of the filled table is the portal graph
+pub length-table : (h : Hall) → length (edgeTable h) ≡ sectors (h .measures) * 400
+unfolding edgeTable
+length-table h = length-tabulate (λ e. portalGraph h .weight e) (sectors (h .measures) * 400) 0
+
+pub table-weight : (h : Hall) (e : ℕ) → getD (edgeTable h) e 0 ≡ portalGraph h .weight e
+unfolding edgeTable portalGraph edges
+table-weight h e = go (below-or e (sectors (h .measures) * 400))
+  where
+    go : (e < sectors (h .measures) * 400) ⊎ (sectors (h .measures) * 400 ≤ e) → getD (edgeTable h) e 0 ≡ portalGraph h .weight e
+    go (inl l) = tabulate-at (λ a. portalGraph h .weight a) (sectors (h .measures) * 400) e 0 l
+    go (inr l) =
+        let past : length (tabulate (edgesOf h) (sectors (h .measures) * 20) 0) ≤ e / 20 = omega (arith, length-tabulate (edgesOf h) (sectors (h .measures) * 20) 0) in
+        List·getD-eq-default (edgeTable h) 0 (omega (arith, length-table h)) ∙ sym (ap (λ (row : List ℕ). getD row (e % 20) 0) (List·getD-eq-default (tabulate (edgesOf h) (sectors (h .measures) * 20) 0) [] past))
+
+pub table-graph : (h : Hall) → tableGraph (h .measures) (edgeTable h) ≡ portalGraph h
+unfolding portalGraph headOf facing
+table-graph h = λ i. record {
+  nodes = sectors (h .measures) * 20;
+  arcs = sectors (h .measures) * 400;
+  tail = λ e. e / 20;
+  head = λ e. headOf h (e / 20) (e % 20);
+  weight = λ e. table-weight h e i;
+}
+
+-- ---- filling it
+-- the first n weights stand in the list
+pub record Filled (h : Hall) (n : ℕ) (t : List ℕ) : Type 0 where
+  pub long : length t ≡ sectors (h .measures) * 400
+  pub at : (e : ℕ) → e < n → getD t e 0 ≡ portalGraph h .weight e
+
+pub filled-none : (h : Hall) (t : List ℕ) → length t ≡ sectors (h .measures) * 400 → Filled h 0 t
+filled-none h t l = record { long = l; at = λ e k. absurd (omega arith) }
+
+pub filled-more : {h : Hall} {n w : ℕ} {t : List ℕ} → Filled h n t → n < sectors (h .measures) * 400 → w ≡ portalGraph h .weight n → Filled h (n + 1) (set t n w)
+filled-more {h} {n} {w} {t} f l q = record { long = length-set t n w ∙ f .long; at = λ e k. go e k (ℕ-discrete e n) }
+  where
+    go : (e : ℕ) → e < n + 1 → Dec (e ≡ n) → getD (set t n w) e 0 ≡ portalGraph h .weight e
+    go e k (yes z) = rw (z, getD-set-same t n w 0 (omega (arith, f .long))) q
+    go e k (no z) = getD-set-other t n e w 0 z ∙ f .at e (omega arith)
+
+pub filled-all : {h : Hall} {n : ℕ} {t : List ℕ} → Filled h n t → sectors (h .measures) * 400 ≤ n → t ≡ edgeTable h
+filled-all {h} {n} {t} f l = ext-getD 0 t (edgeTable h) (f .long ∙ sym (length-table h)) (λ e k. f .at e (omega (arith, f .long)) ∙ sym (table-weight h e))
+
+-- ---- a store that passes the check
+-- what every function below is given: a store that passes, and its measures
+pub record Opened (m : Measures) (st : List ℕ) : Type 0 where
+  pub passes : Checked st
+  pub read : m ≡ measuresAt st
+
+pub checked-fits : {st : List ℕ} → Checked st → Fits (decode st)
+unfolding decode
+checked-fits {st} ok = record { small = few-sectors (ok .sides); marked = λ s side. go s side (below-or (s * 4 + sideNumber side) (sectors (measuresAt st) * 4)) }
+  where
+    go : (s : ℕ) (side : Side) → (s * 4 + sideNumber side < sectors (measuresAt st) * 4) ⊎ (sectors (measuresAt st) * 4 ≤ s * 4 + sideNumber side) → markAt (decode st) s side < 1024
+    go s side (inl l) = omega (arith, ok .small-marks (s * 4 + sideNumber side) l)
+    go s side (inr l) = omega (arith, List·getD-eq-default (marksIn (measuresAt st) st) 0 {n = s * 4 + sideNumber side} (omega (arith, decode-laid st (ok .room) .marks-sides)))
+
+-- the table of such a store stands for a graph that can be searched from its end
+pub table-sound : (h : Hall) → Sound (tableGraph (h .measures) (edgeTable h))
+table-sound h = rw (table-graph h) (portal-sound h)
+
+pub table-both-ways : {h : Hall} → Fits h → BothWays (tableGraph (h .measures) (edgeTable h))
+table-both-ways {h} fits = subst (λ (g : Graph). BothWays g) (sym (table-graph h)) (portal-both-ways h fits)

@@ -1,0 +1,6 @@
+pub mod Across
+pub mod EdgeTable
+pub mod Reading
+pub mod Weights
+pub mod Searching
+pub mod Following

@@ -1,0 +1,5 @@
+// The portal graph of a hall, its search and its least paths: document 01, item 8, second part, and "Stand-in for petgraph".
+pub mod edges;
+pub mod keys;
+pub mod path;
+pub mod portals;
