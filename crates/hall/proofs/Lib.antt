@@ -1,2 +1,4 @@
 pub mod Passed
+pub mod Laying
+pub mod Building
 pub mod Listed

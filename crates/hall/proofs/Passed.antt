@@ -1,10 +1,10 @@
 -- A store that passed the check, and the measures read from it.
 use mathlib.Core.Path.{_≡_, refl, sym, ap, _∙_}
 use mathlib.Core.List.{List, [], _∷_}
-use Prim.Native.Nat.{ℕ, zero, suc, _+_, _*_, _≤_, _<_}
+use Prim.Native.Nat.{ℕ, zero, suc, _+_, _*_, _/_, _≤_, _<_}
 use native.Mathlib.Nat.{add-zero}
 use native.Mathlib.Omega.{arith}
-use lib.ListN.{length, getD}
+use lib.ListN.{length, getD, set}
 use Rattle.laws.specs.Table.{tabulate, tabulate-at}
 use Rattle.model.specs.declared.Measures.{Measures}
 use Rattle.model.specs.Cells.{sideNumber, sideAt}
@@ -12,16 +12,22 @@ use Rattle.model.specs.Sectors.{sectors, cells}
 use Rattle.model.specs.Halls.{markAt}
 use Rattle.model.specs.Store.{u16At, measuresAt, sizeOf, marksIn, decode}
 use Rattle.model.specs.StoreLayout.{mark-at}
-use Rattle.model.specs.Calls.{orElse, checkNumber, windowsOf}
-use Rattle.store.specs.Checks.{Sized, Checked, checked}
+use Rattle.model.specs.Calls.{orElse, ifAccepted, checkNumber, windowsOf}
+use Rattle.store.specs.Checks.{Sized, few-sectors, Checked, checked}
 use Rattle.portal.specs.Listing.{windowsBy, FourMarks, windows-by}
-use Rattle.hall.specs.Marks.{sectorMarks}
+use Rattle.hall.specs.Each.{each}
+use Rattle.hall.specs.Marks.{sectorMarks, kept}
 
 -- a number that comes before what else may be refused
 pub refused-first : (r rest : ℕ) → 0 < r → r ≡ orElse r rest
 unfolding orElse
 refused-first zero rest h = absurd (omega arith)
 refused-first (suc r) rest h = refl
+
+pub not-accepted : (n : ℕ) (new old : List ℕ) → 0 < n → old ≡ ifAccepted n new old
+unfolding ifAccepted
+not-accepted zero new old h = absurd (omega arith)
+not-accepted (suc n) new old h = refl
 
 pub none : {r : ℕ} → r ≤ 0 → r ≡ 0
 none h = omega arith
@@ -40,8 +46,15 @@ module _ {st : List ℕ} {m : Measures} (read : m ≡ measuresAt st) (k : Checke
   read-room = rw read (k .room)
 
 -- ---- marks
+pub side-on : {m : Measures} (k : ℕ) → Sized m → k < sectors m * 4 → (1 ≤ m .rows) × (k / 4 ≤ 10000)
+side-on k z l = (z .some-rows, omega (arith, few-sectors z))
+
 pub mark-is : (m : Measures) (st : List ℕ) (k : ℕ) {n r : ℕ} → k < sectors m * 4 → n ≡ cells m → r ≡ u16At st (4 + 2 * n + 2 * k) → r ≡ getD (marksIn m st) k 0
 mark-is m st k l e h = h ∙ ap (λ n. u16At st (4 + 2 * n + 2 * k)) e ∙ sym (mark-at m st k l)
+
+pub kept-set : (m : Measures) (st : List ℕ) (k : ℕ) (marks : List ℕ) {r : ℕ} → k < sectors m * 4 → r ≡ getD (marksIn m st) k 0 → set marks k r ≡ each (kept m st) k marks
+unfolding each
+kept-set m st k marks l e = ap (set marks k) (e ∙ mark-at m st k l)
 
 pub four-are : (marks : List ℕ) (s : ℕ) {a b d e : ℕ} → a ≡ getD marks (s * 4) 0 → b ≡ getD marks (s * 4 + 1) 0 → d ≡ getD marks (s * 4 + 2) 0 → e ≡ getD marks (s * 4 + 3) 0 → a ∷ b ∷ d ∷ e ∷ [] ≡ sectorMarks marks s
 unfolding sectorMarks tabulate

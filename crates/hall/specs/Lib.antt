@@ -1,1 +1,3 @@
+pub mod Each
 pub mod Marks
+pub mod Parts

@@ -1,5 +1,8 @@
 // The public calls of a hall, each for every input: document 01, "Calls and their numbers, in order".
+pub mod build;
+pub mod change;
 pub mod file;
+pub mod layout;
 pub mod marks;
 pub mod plan;
 pub mod windows;

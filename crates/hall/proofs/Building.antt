@@ -1,0 +1,46 @@
+-- What build asks once it is not refused, what it answers, and what it leaves in the store.
+use mathlib.Core.Path.{_≡_, refl, sym, ap, _∙_}
+use mathlib.Core.List.{List}
+use Prim.Native.Nat.{ℕ, zero, suc, _*_, _≤_, _<_}
+use native.Mathlib.Omega.{arith}
+use lib.ListN.{length}
+use borrow.Author.Tests.{ltb-false}
+use Rattle.laws.specs.Ladder.{passed}
+use Rattle.model.specs.declared.Measures.{Measures}
+use Rattle.model.specs.Sectors.{cells}
+use Rattle.model.specs.Scaling.{scaleFloor}
+use Rattle.model.specs.Windows.{marksOf}
+use Rattle.model.specs.Store.{sizeOf, written}
+use Rattle.model.specs.Calls.{ifAccepted, buildNumber, built, buildInto}
+use Rattle.store.specs.Checks.{sized, scaled-well, not-different}
+use Rattle.sector_cost.specs.Costs.{costs}
+use Rattle.hall.specs.Parts.{hallOf, Buildable}
+use Rattle.hall.proofs.Passed.{none, not-accepted}
+
+pub built-by : (m : Measures) (base st : List ℕ) {costs marks out : List ℕ} → costs ≡ scaleFloor m base → marks ≡ marksOf m costs → out ≡ written (hallOf m base costs marks) st → out ≡ written (built m base) st
+unfolding built
+built-by m base st e f o = o ∙ rw (f, e)
+
+module _ (m : Measures) (base st : List ℕ) {r : ℕ} (is : r ≡ buildNumber m base st) where
+  pub build-refused : 0 < r → (r ≡ buildNumber m base st) × (st ≡ buildInto m base st)
+  unfolding buildInto
+  build-refused h = (is, rw (← is) (not-accepted r (written (built m base) st) st h))
+
+  module _ (no : r ≤ 0) where
+    pub buildable : Buildable m base st
+    unfolding buildNumber
+    buildable =
+        let a = passed _ 10 _ (sym is ∙ none no) in
+        let b = passed _ 11 _ (a .1) in
+        let d = passed _ 16 _ (b .1) in
+        let e = passed _ 17 _ (d .1) in
+        let z = sized m (a .0) in
+        record {
+          sides = z;
+          costs = costs (z .few-columns) (z .some-rows) (z .few-rows) (scaled-well m (b .0) .1) (not-different (length base) (cells m) (d .0));
+          room = ltb-false (length st) (sizeOf m) (e .0);
+        }
+
+    pub build-accepted : {out : List ℕ} → out ≡ written (built m base) st → (0 ≡ buildNumber m base st) × (out ≡ buildInto m base st)
+    unfolding buildInto ifAccepted
+    build-accepted o = let e : buildNumber m base st ≡ 0 = sym is ∙ none no in (sym e, rw e o)
