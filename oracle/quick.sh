@@ -11,5 +11,12 @@ export CARGO_TARGET_DIR="$PWD/target"
 cargo build --offline --release --quiet
 cargo test --offline --release --quiet --package petgraph_standin --test first_path
 cargo test --offline --release --quiet --manifest-path second/Cargo.toml --tests
+
+# The list that the program floors replays is what this writes.
+mkdir -p target/replay
+target/release/compare replay --seed 301 --count 300 --into target/replay
+cmp target/replay/stdin ../crates/floors/stdin
+cmp target/replay/stdout ../crates/floors/stdout
+
 target/release/compare all --router second --seed 1 --count 200 --routes 5 --changes 5 --threads 2
 target/release/compare all --router proved --seed 2 --count 400 --routes 5 --changes 5 --threads 2

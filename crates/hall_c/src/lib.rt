@@ -2,8 +2,10 @@
 ghost use mathlib.Core.Path.{_≡_};
 ghost use Prim.Native.Nat.{_/_};
 ghost use lib.ListN.{length};
-ghost use Rattle.model.specs.Calls.{planAnswer, readAnswer, readInto, checkNumber, windowsAnswer, windowsFlat};
+ghost use Rattle.model.specs.Calls.{planAnswer, readAnswer, readInto, buildNumber, buildInto, checkNumber, windowsAnswer, windowsFlat};
+ghost use Rattle.hall.specs.Parts.{measuresOf};
 ghost use Rattle.hall_c.specs.Answers.{dimensions, flatMeasures, flatWindows};
+use hall::build::build;
 use hall::file::read_file;
 use hall::plan::plan;
 use hall::windows::windows;
@@ -76,6 +78,15 @@ pub extern "C" fn hall_read_file(file: &[u8], base: &mut [u8]) -> MeasuresAnswer
     ensures filled { λ _. ⌜ now (base .exit) ≡ readInto (now (file .entry)) (now (base .entry)) ⌝ }
 {
     flat_measures(read_file(file, base))
+}
+
+// Builds a hall in a lent store.
+#[no_mangle]
+pub extern "C" fn hall_build(columns: u8, rows: u8, scale: u8, base: &[u8], store: &mut [u8]) -> u8
+    ensures answer { λ r. ⌜ r ≡ buildNumber (measuresOf columns rows scale) (now (base .entry)) (now (store .entry)) ⌝ }
+    ensures built { λ _. ⌜ now (store .exit) ≡ buildInto (measuresOf columns rows scale) (now (base .entry)) (now (store .entry)) ⌝ }
+{
+    build(columns, rows, scale, base, store)
 }
 
 // The number of the first refusal that applies to a store, or 0.

@@ -9,6 +9,7 @@ mod options;
 mod plans;
 mod proved_router;
 mod refusals;
+mod replay;
 mod report;
 mod routes;
 mod sabotage;
@@ -39,6 +40,7 @@ fn main() -> ExitCode {
     exit(match options.command {
         Command::All => all(&options),
         Command::Selfcheck => sabotage::selfcheck(&options),
+        Command::Replay => replay::write(&options),
         _ => {
             let report = run(&options);
             report.print(&options);
@@ -99,7 +101,9 @@ fn run_with(router: &dyn Router, options: &Options) -> Report {
         Command::Damaged => damaged::compare(router, options, case, report),
         Command::Bytes => bytes::compare(router, options, case, report),
         Command::Floors => floors::compare(router, case, report),
-        Command::Selfcheck | Command::All => unreachable!("these run the others"),
+        Command::Selfcheck | Command::All | Command::Replay => {
+            unreachable!("these have no cases of their own")
+        }
     })
 }
 

@@ -11,6 +11,7 @@ compare bytes     damaged files and stores, every lent byte against the second r
 compare floors    the floors that document 01 lists, and a few more
 compare selfcheck every sabotage is reported
 compare all       all of these, with one last line
+compare replay    writes the list that the program floors replays, and the lines it owes
   --router R    who answers: second or proved (second)
   --seed S      the seed (1)
   --first N     the first case (0)
@@ -18,6 +19,7 @@ compare all       all of these, with one last line
   --routes M    routes on each hall before its changes, and again after them (5)
   --changes K   changes of each hall (5)
   --threads T   1 or 2 (1)
+  --into FOLDER where replay writes stdin and stdout (.)
   --sabotage K  spoils the answers on purpose: tie, midpoint, target, mark, windows,
                 leg, run, none, tail, refused, file, plan, program, check, spare";
 
@@ -32,6 +34,7 @@ pub enum Command {
     Floors,
     Selfcheck,
     All,
+    Replay,
 }
 
 /// Who answers 01's calls: the second reading or the proved library.
@@ -41,7 +44,7 @@ pub enum Answering {
     Proved,
 }
 
-const COMMANDS: [(&str, Command); 8] = [
+const COMMANDS: [(&str, Command); 9] = [
     ("halls", Command::Halls),
     ("lent", Command::Lent),
     ("plans", Command::Plans),
@@ -50,6 +53,7 @@ const COMMANDS: [(&str, Command); 8] = [
     ("floors", Command::Floors),
     ("selfcheck", Command::Selfcheck),
     ("all", Command::All),
+    ("replay", Command::Replay),
 ];
 
 #[derive(Clone)]
@@ -63,6 +67,7 @@ pub struct Options {
     pub changes: usize,
     pub threads: usize,
     pub sabotage: Option<Sabotage>,
+    pub into: String,
 }
 
 impl Options {
@@ -77,6 +82,7 @@ impl Options {
             changes: 5,
             threads: 1,
             sabotage: None,
+            into: ".".into(),
         }
     }
 
@@ -104,6 +110,7 @@ impl Options {
             "--routes" => self.routes = number()? as usize,
             "--changes" => self.changes = number()? as usize,
             "--threads" => self.threads = number()?.max(1) as usize,
+            "--into" => self.into = value.into(),
             "--sabotage" => self.sabotage = Some(Sabotage::named(value)?),
             _ => return Err(format!("no option {name}")),
         }

@@ -1,5 +1,5 @@
 //! The proved library as a router. Calls that it does not have yet are answered by
-//! the second reading: build, change, route and the program.
+//! the second reading: change, route and the program.
 
 use calls::{Counted, Measures, Routed, Router, Step, Window};
 
@@ -24,7 +24,7 @@ impl Router for Proved {
     }
 
     fn build(&self, measures: [u8; 3], base: &[u8], store: &mut [u8]) -> u8 {
-        Second.build(measures, base, store)
+        lend(store, |store| proved::build(measures, base, store))
     }
 
     fn change(&self, store: &mut [u8], floor_number: usize, cost: u8) -> u8 {

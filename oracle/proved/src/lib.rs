@@ -28,6 +28,15 @@ unsafe extern "C" {
         base_length: usize,
     ) -> MeasuresAnswer;
     fn hall_check_store(store: *const u8, store_length: usize) -> u8;
+    fn hall_build(
+        columns: u8,
+        rows: u8,
+        scale: u8,
+        base: *const u8,
+        base_length: usize,
+        store: *mut u8,
+        store_length: usize,
+    ) -> u8;
     fn hall_windows(
         store: *const u8,
         store_length: usize,
@@ -49,6 +58,13 @@ pub fn read_file(file: &[u8], base: &mut [u8]) -> MeasuresAnswer {
 pub fn check_store(store: &[u8]) -> u8 {
     // SAFETY: the slice is lent whole for the time of the call, and its length with it.
     unsafe { hall_check_store(store.as_ptr(), store.len()) }
+}
+
+pub fn build([columns, rows, scale]: [u8; 3], base: &[u8], store: &mut [u8]) -> u8 {
+    let (costs, cells) = (base.as_ptr(), base.len());
+    let (lent, size) = (store.as_mut_ptr(), store.len());
+    // SAFETY: both slices are lent whole for the time of the call, and their lengths with them.
+    unsafe { hall_build(columns, rows, scale, costs, cells, lent, size) }
 }
 
 /// The list takes three bytes a window: first cell, last cell and side.
