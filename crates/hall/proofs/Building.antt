@@ -12,7 +12,7 @@ use Rattle.model.specs.Scaling.{scaleFloor}
 use Rattle.model.specs.Windows.{marksOf}
 use Rattle.model.specs.Store.{sizeOf, written}
 use Rattle.model.specs.Calls.{ifAccepted, buildNumber, built, buildInto}
-use Rattle.store.specs.Checks.{sized, scaled-well, not-different}
+use Rattle.store.specs.Checks.{sized, few-sectors, scaled-well, not-different}
 use Rattle.sector_cost.specs.Costs.{costs}
 use Rattle.hall.specs.Parts.{hallOf, Buildable}
 use Rattle.hall.proofs.Passed.{none, not-accepted}
@@ -22,9 +22,9 @@ unfolding built
 built-by m base st e f o = o ∙ rw (f, e)
 
 module _ (m : Measures) (base st : List ℕ) {r : ℕ} (is : r ≡ buildNumber m base st) where
-  pub build-refused : 0 < r → (r ≡ buildNumber m base st) × (st ≡ buildInto m base st)
+  pub build-kept : 0 < r → st ≡ buildInto m base st
   unfolding buildInto
-  build-refused h = (is, rw (← is) (not-accepted r (written (built m base) st) st h))
+  build-kept h = rw (← is) (not-accepted r (written (built m base) st) st h)
 
   module _ (no : r ≤ 0) where
     pub buildable : Buildable m base st
@@ -36,11 +36,16 @@ module _ (m : Measures) (base st : List ℕ) {r : ℕ} (is : r ≡ buildNumber m
         let e = passed _ 17 _ (d .1) in
         let z = sized m (a .0) in
         record {
-          sides = z;
+          floor = record { sides = z; few = few-sectors z };
           costs = costs (z .few-columns) (z .some-rows) (z .few-rows) (scaled-well m (b .0) .1) (not-different (length base) (cells m) (d .0));
           room = ltb-false (length st) (sizeOf m) (e .0);
         }
 
-    pub build-accepted : {out : List ℕ} → out ≡ written (built m base) st → (0 ≡ buildNumber m base st) × (out ≡ buildInto m base st)
+    pub build-0 : 0 ≡ buildNumber m base st
+    build-0 = sym (none no) ∙ is
+
+    pub build-written : {out : List ℕ} → out ≡ written (built m base) st → out ≡ buildInto m base st
     unfolding buildInto ifAccepted
-    build-accepted o = let e : buildNumber m base st ≡ 0 = sym is ∙ none no in (sym e, rw e o)
+    build-written o = rw (← build-0) o
+
+pub ruleset building = (build-kept, buildable, build-0, build-written)

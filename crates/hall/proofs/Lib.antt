@@ -1,4 +1,5 @@
 pub mod Passed
 pub mod Laying
 pub mod Building
+pub mod Changing
 pub mod Listed

@@ -46,9 +46,6 @@ module _ {st : List ℕ} {m : Measures} (read : m ≡ measuresAt st) (k : Checke
   read-room = rw read (k .room)
 
 -- ---- marks
-pub side-on : {m : Measures} (k : ℕ) → Sized m → k < sectors m * 4 → (1 ≤ m .rows) × (k / 4 ≤ 10000)
-side-on k z l = (z .some-rows, omega (arith, few-sectors z))
-
 pub mark-is : (m : Measures) (st : List ℕ) (k : ℕ) {n r : ℕ} → k < sectors m * 4 → n ≡ cells m → r ≡ u16At st (4 + 2 * n + 2 * k) → r ≡ getD (marksIn m st) k 0
 mark-is m st k l e h = h ∙ ap (λ n. u16At st (4 + 2 * n + 2 * k)) e ∙ sym (mark-at m st k l)
 

@@ -1,13 +1,20 @@
--- Marks by their numbers.
-use Prim.Native.Nat.{ℕ, _+_, _*_, _/_, _%_}
+-- A floor that 01 accepts, and marks by their numbers.
+use Prim.Native.Nat.{ℕ, _+_, _*_, _/_, _%_, _≤_}
 use mathlib.Core.List.{List}
 use lib.ListN.{getD}
+use Rattle.laws.specs.Fold.{pick}
 use Rattle.laws.specs.Table.{tabulate}
 use Rattle.model.specs.declared.Measures.{Measures}
 use Rattle.model.specs.Cells.{sideAt}
-use Rattle.model.specs.Sectors.{cells}
+use Rattle.model.specs.Sectors.{sectors, cells}
 use Rattle.model.specs.Windows.{markOf}
+use Rattle.model.specs.Change.{isNearby}
 use Rattle.model.specs.Store.{u16At}
+use Rattle.store.specs.Checks.{Sized}
+
+pub record Floor (m : Measures) : Type 0 where
+  pub sides : Sized m
+  pub few : sectors m ≤ 100
 
 -- the marks of sector s, by side: N, E, S, W
 unfoldable pub sectorMarks : List ℕ → ℕ → List ℕ
@@ -19,3 +26,11 @@ kept m st k old = u16At st (4 + 2 * cells m + 2 * k)
 
 abbrev pub fresh : Measures → List ℕ → ℕ → ℕ → ℕ
 fresh m costs k old = markOf m costs (k / 4) (sideAt (k % 4))
+
+-- what the costs give where the mark's sector is one of those around sector t, and else what stood there
+abbrev pub nearbyFresh : Measures → List ℕ → ℕ → ℕ → ℕ → ℕ
+nearbyFresh m costs t k old = pick (isNearby m t (k / 4)) (fresh m costs k old) old
+
+-- marks of ten bits
+pub record Small (marks : List ℕ) : Type 0 where
+  pub small : (k : ℕ) → getD marks k 0 ≤ 1023

@@ -2,7 +2,7 @@
 pub mod build;
 pub mod change;
 pub mod file;
-pub mod layout;
-pub mod marks;
+mod layout;
+mod marks;
 pub mod plan;
 pub mod windows;

@@ -7,7 +7,7 @@ ghost use Rattle.model.specs.Windows.{marksOf};
 ghost use Rattle.model.specs.Store.{sizeOf, marksIn};
 ghost use Rattle.store.specs.Checks.{Sized};
 ghost use Rattle.hall.specs.Each.{each};
-ghost use Rattle.hall.specs.Marks.{sectorMarks, kept, fresh};
+ghost use Rattle.hall.specs.Marks.{Floor, sectorMarks, kept, fresh};
 use fields::cells::side_at;
 use fields::sectors::cells;
 use model::Measures;
@@ -58,7 +58,7 @@ pub fn take_marks(st: &[u8], m: Measures, marks: &mut [u16])
 
 // Marks side k afresh, from the costs.
 pub fn mark_side(m: Measures, costs: &[u8], k: usize, marks: &mut [u16])
-    requires { ⌜ Sized m × (k < sectors m * 4) × (length (now marks) ≡ sectors m * 4) ⌝ }
+    requires { ⌜ Floor m × (k < sectors m * 4) × (length (now marks) ≡ sectors m * 4) ⌝ }
     ensures { λ _. ⌜ now (marks .exit) ≡ each (fresh m (now (costs .entry))) k (now (marks .entry)) ⌝ }
 {
     marks[k] = side_mark(m, costs, k / 4, side_at(k % 4));
@@ -66,7 +66,7 @@ pub fn mark_side(m: Measures, costs: &[u8], k: usize, marks: &mut [u16])
 
 // Marks all sides afresh.
 pub fn mark_all(m: Measures, costs: &[u8], marks: &mut [u16])
-    requires { ⌜ Sized m × (length (now marks) ≡ sectors m * 4) ⌝ }
+    requires { ⌜ Floor m × (length (now marks) ≡ sectors m * 4) ⌝ }
     ensures { λ _. ⌜ now (marks .exit) ≡ marksOf m (now (costs .entry)) ⌝ }
 {
     let n = marks.len();

@@ -1,5 +1,5 @@
 -- `build` answers as a build does: refused, the store is as it was; accepted, the hall is written into it.
-use Rattle.hall.proofs.Building.{buildable, build-refused, build-accepted}
+use Rattle.hall.proofs.Building.{building}
 use borrow.Author.Needs.{needs}
 use Rattle.hall.proofs.build.build.Statement.{statement}
 use Rattle.hall.proofs.build.build.Tie as tie
@@ -11,19 +11,16 @@ same-length : tie.Need-same-length
 same-length c = search needs
 
 returns : tie.Need-returns
-returns c = build-refused _ _ _ (c .before .build-number .ensures) (c .if1 .taken)
+returns c = search (needs, building)
 
 build-hall-requires : tie.Need-build-hall-requires
-build-hall-requires c κs = search (needs, buildable)
+build-hall-requires c κs = search (needs, building)
 
 same-length-2 : tie.Need-same-length-2
 same-length-2 c = search needs
 
 returns-2 : tie.Need-returns-2
-returns-2 c =
-    let out = c .before .before in
-    let no = out .before .before in
-    build-accepted _ _ _ (no .before .build-number .ensures) (no .if1 .left) (out .build-hall .ensures)
+returns-2 c = search (needs, building)
 
 pub build-spec : {M : Type 1} → statement M
 build-spec =

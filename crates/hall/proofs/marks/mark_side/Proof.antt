@@ -1,6 +1,5 @@
 -- `mark_side` sets mark k to what the costs give.
 use Rattle.hall.specs.Each.{each}
-use Rattle.hall.proofs.Passed.{side-on}
 use borrow.Author.Needs.{needs}
 use Rattle.hall.proofs.marks.mark_side.Statement.{statement}
 use Rattle.hall.proofs.marks.mark_side.Tie as tie
@@ -9,7 +8,7 @@ side-at-requires : tie.Need-side-at-requires
 side-at-requires c κs = search needs
 
 side-mark-requires : tie.Need-side-mark-requires
-side-mark-requires c κs = let s = c .before .before .before in side-on _ (s .pre .0) (s .pre .1)
+side-mark-requires c κs = search needs
 
 mul-marks : tie.Need-mul-marks
 mul-marks c = search needs
