@@ -14,7 +14,7 @@ cargo test --offline --release --quiet --manifest-path second/Cargo.toml --tests
 
 # The list that the program floors replays is what this writes.
 mkdir -p target/replay
-target/release/compare replay --seed 301 --count 300 --into target/replay
+target/release/compare replay --seed 304 --count 300 --into target/replay
 cmp target/replay/stdin ../crates/floors/stdin
 cmp target/replay/stdout ../crates/floors/stdout
 

@@ -1,10 +1,11 @@
-// Halls: a hall file is read into base costs and built in a store, and windows are listed.
+// Halls: a hall file is read into base costs and built in a store, costs are changed, and windows are listed.
 ghost use Prim.Native.Nat.{_<_};
 ghost use Rattle.io.specs.Counts.{Counts};
 use crate::plans::print_measured;
 use fields::numbers::wide;
 use fields::sectors::cells;
 use hall::build::build;
+use hall::change::change;
 use hall::file::read_file;
 use hall::windows::windows;
 use model::Listed;
@@ -109,6 +110,21 @@ pub fn replay_file(store: &mut [u8]) -> bool {
     }
     let mut space = io::large_buffer();
     replay_bytes(wide(length[0]) + 256 * wide(length[1]), &mut space, store);
+    true
+}
+
+// An entry: a floor number in two bytes, and a cost.
+pub fn replay_change(store: &mut [u8]) -> bool {
+    let mut asked = [0u8; 3];
+    if io::read_full(0, &mut asked) < 3 {
+        return false;
+    }
+    let n = wide(asked[0]) + 256 * wide(asked[1]);
+    let cost = asked[2];
+    print_number(b"change of ", n);
+    print_number(b" to ", wide(cost));
+    print_number(b" is ", wide(change(store, n, cost)));
+    print_lent(store);
     true
 }
 

@@ -12,6 +12,7 @@ fn replay(store: &mut [u8]) -> bool {
     match kind[0] {
         b'p' => plans::replay(),
         b'f' => halls::replay_file(store),
+        b'c' => halls::replay_change(store),
         b'w' => halls::replay_windows(store),
         _ => false,
     }

@@ -2,10 +2,11 @@
 ghost use mathlib.Core.Path.{_≡_};
 ghost use Prim.Native.Nat.{_/_};
 ghost use lib.ListN.{length};
-ghost use Rattle.model.specs.Calls.{planAnswer, readAnswer, readInto, buildNumber, buildInto, checkNumber, windowsAnswer, windowsFlat};
+ghost use Rattle.model.specs.Calls.{planAnswer, readAnswer, readInto, buildNumber, buildInto, checkNumber, changeNumber, changeInto, windowsAnswer, windowsFlat};
 ghost use Rattle.hall.specs.Parts.{measuresOf};
 ghost use Rattle.hall_c.specs.Answers.{dimensions, flatMeasures, flatWindows};
 use hall::build::build;
+use hall::change::change;
 use hall::file::read_file;
 use hall::plan::plan;
 use hall::windows::windows;
@@ -95,6 +96,15 @@ pub extern "C" fn hall_check_store(store: &[u8]) -> u8
     ensures { λ r. ⌜ r ≡ checkNumber (now (store .entry)) ⌝ }
 {
     check_store(store)
+}
+
+// Changes the cost of a cell of the hall in a lent store.
+#[no_mangle]
+pub extern "C" fn hall_change(store: &mut [u8], floor_number: usize, cost: u8) -> u8
+    ensures answer { λ r. ⌜ r ≡ changeNumber (now (store .entry)) «floor_number» cost ⌝ }
+    ensures changed { λ _. ⌜ now (store .exit) ≡ changeInto (now (store .entry)) «floor_number» cost ⌝ }
+{
+    change(store, floor_number, cost)
 }
 
 // Lists the windows of a sector, N, E, S, W, three bytes each: first cell, last cell and side.

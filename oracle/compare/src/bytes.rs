@@ -3,7 +3,8 @@
 
 use calls::{Router, Window};
 use cases::draw::{Draw, Use};
-use cases::{damage, files, halls, stores};
+use cases::floor::Floor;
+use cases::{changes, damage, files, halls, stores};
 
 use crate::options::Options;
 use crate::report::{Difference, Report};
@@ -78,6 +79,19 @@ impl Bytes<'_> {
             self.windows(&store, sector, room, report);
         }
         self.windows(&store, usize::MAX, 20, report);
+        self.changes(&store, &floor, report);
+    }
+
+    /// Some changes in turn, now and then of a floor number too large.
+    fn changes(&mut self, store: &[u8], floor: &Floor, report: &mut Report) {
+        let mut lent = [store.to_vec(), store.to_vec()];
+        for _ in 0..4 {
+            let (cell, cost) = changes::change(floor, &mut self.draw);
+            let given = self.router.change(&mut lent[0], cell, cost);
+            let owed = Second.change(&mut lent[1], cell, cost);
+            let pair = ((given, &lent[0]), (owed, &lent[1]));
+            self.check("change", owed, pair, report);
+        }
     }
 
     /// Any bits in one of the marks.

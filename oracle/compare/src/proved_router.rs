@@ -1,5 +1,5 @@
 //! The proved library as a router. Calls that it does not have yet are answered by
-//! the second reading: change, route and the program.
+//! the second reading: route and the program.
 
 use calls::{Counted, Measures, Routed, Router, Step, Window};
 
@@ -28,7 +28,7 @@ impl Router for Proved {
     }
 
     fn change(&self, store: &mut [u8], floor_number: usize, cost: u8) -> u8 {
-        Second.change(store, floor_number, cost)
+        lend(store, |store| proved::change(store, floor_number, cost))
     }
 
     fn windows(&self, store: &[u8], sector: usize, list: &mut [Window]) -> Counted {

@@ -6,7 +6,8 @@ use std::path::Path;
 
 use calls::{Judge, Measures};
 use cases::draw::{Draw, Use};
-use cases::{damage, files, halls};
+use cases::floor::Floor;
+use cases::{changes, damage, files, halls};
 use reference_standin::Hall as Standin;
 
 use crate::options::Options;
@@ -17,7 +18,10 @@ use crate::refusals;
 const NOT_STARRED: [[f32; 4]; 2] = [[109.0, 10.0, 1.0, 1.0], [110.0, 10.0, 1.0, 1.0]];
 
 /// The most sectors of a hall that is replayed.
-const SECTORS: usize = 4;
+const SECTORS: usize = 6;
+
+/// The changes of a hall.
+const CHANGES: usize = 6;
 
 /// The largest prime below 2 to the 32nd.
 const PRIME: u64 = 4_294_967_291;
@@ -86,22 +90,47 @@ impl Replay {
             Ok(accepted) => accepted,
             Err(number) => (refused(number), vec![7; room]),
         };
-        let (length, text, sum) = (file.len(), measured(answer), sum(&base));
-        let line = format!("file of {length} bytes{text}, lent {sum}\n");
+        let (length, text, lent) = (file.len(), measured(answer), sum(&base));
+        let line = format!("file of {length} bytes{text}, lent {lent}\n");
         self.owed.push_str(&line);
         if answer.number == 0 {
             let measures = [answer.columns, answer.rows, answer.scale];
-            self.built(Standin::build(measures, &base), base.len() / 100);
+            let mut hall = Standin::build(measures, &base);
+            self.keep(&hall);
+            let line = format!("build is 0, lent {}\n", sum(&self.store));
+            self.owed.push_str(&line);
+            self.windows(&hall, base.len() / 100);
+            self.changes(&mut hall, base.len() / 100, &mut draw);
+            self.windows(&hall, base.len() / 100);
         }
     }
 
-    /// The hall that is built, and the windows of each sector and of one too large.
-    fn built(&mut self, hall: Standin, sectors: usize) {
-        self.keep(&hall);
-        let line = format!("build is 0, lent {}\n", sum(&self.store));
-        self.owed.push_str(&line);
-        for sector in 0..=sectors {
-            self.windows(&hall, sector, sectors);
+    /// Some changes. The Rust panics where 01 has 21 or 22.
+    fn changes(&mut self, hall: &mut Standin, sectors: usize, draw: &mut Draw) {
+        for _ in 0..CHANGES {
+            let (number, cost) = changes::change(&self.floor(sectors), draw);
+            let number = number.min(65_535);
+            self.asked.push(b'c');
+            self.asked.extend((number as u16).to_le_bytes());
+            self.asked.push(cost);
+            let owed = match (hall.change(number, cost), number < 100 * sectors) {
+                (true, _) => 0,
+                (false, true) => 22,
+                (false, false) => 21,
+            };
+            self.keep(hall);
+            let lent = sum(&self.store);
+            let line = format!("change of {number} to {cost} is {owed}, lent {lent}\n");
+            self.owed.push_str(&line);
+        }
+    }
+
+    /// The present base costs as a floor.
+    fn floor(&self, sectors: usize) -> Floor {
+        Floor {
+            columns: self.store[0].into(),
+            rows: self.store[1].into(),
+            costs: self.store[4..4 + 100 * sectors].to_vec(),
         }
     }
 
@@ -111,19 +140,22 @@ impl Replay {
         self.store[..store.len()].copy_from_slice(&store);
     }
 
-    fn windows(&mut self, hall: &Standin, sector: usize, sectors: usize) {
-        self.asked.extend([b'w', sector as u8]);
-        let mut list = vec![7; 60];
-        let answer = if sector < sectors {
-            let windows = hall.windows(sector);
-            let flat = windows.iter().flat_map(|w| [w.first, w.last, w.side]);
-            list.splice(..3 * windows.len(), flat);
-            format!("gives {}", windows.len())
-        } else {
-            "is 26".into()
-        };
-        let line = format!("windows of {sector} {answer}, lent {}\n", sum(&list));
-        self.owed.push_str(&line);
+    /// The windows of each sector, and of one too large.
+    fn windows(&mut self, hall: &Standin, sectors: usize) {
+        for sector in 0..=sectors {
+            self.asked.extend([b'w', sector as u8]);
+            let mut list = vec![7; 60];
+            let answer = if sector < sectors {
+                let windows = hall.windows(sector);
+                let flat = windows.iter().flat_map(|w| [w.first, w.last, w.side]);
+                list.splice(..3 * windows.len(), flat);
+                format!("gives {}", windows.len())
+            } else {
+                "is 26".into()
+            };
+            let line = format!("windows of {sector} {answer}, lent {}\n", sum(&list));
+            self.owed.push_str(&line);
+        }
     }
 }
 

@@ -37,6 +37,7 @@ unsafe extern "C" {
         store: *mut u8,
         store_length: usize,
     ) -> u8;
+    fn hall_change(store: *mut u8, store_length: usize, floor_number: usize, cost: u8) -> u8;
     fn hall_windows(
         store: *const u8,
         store_length: usize,
@@ -65,6 +66,11 @@ pub fn build([columns, rows, scale]: [u8; 3], base: &[u8], store: &mut [u8]) -> 
     let (lent, size) = (store.as_mut_ptr(), store.len());
     // SAFETY: both slices are lent whole for the time of the call, and their lengths with them.
     unsafe { hall_build(columns, rows, scale, costs, cells, lent, size) }
+}
+
+pub fn change(store: &mut [u8], floor_number: usize, cost: u8) -> u8 {
+    // SAFETY: the slice is lent whole for the time of the call, and its length with it.
+    unsafe { hall_change(store.as_mut_ptr(), store.len(), floor_number, cost) }
 }
 
 /// The list takes three bytes a window: first cell, last cell and side.

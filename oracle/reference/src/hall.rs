@@ -154,12 +154,18 @@ impl Hall {
         hall
     }
 
-    fn set_cost(&mut self, floor_number: usize, cost: u8) {
+    /// The change itself, which may panic and leave the hall altered.
+    pub fn set_cost(&mut self, floor_number: usize, cost: u8) {
         let (sector, cell) = layout::place_on_floor(floor_number, self.rows.into());
         self.costs
             .set_field_cost(&sector, &cell, cost, &self.dimensions);
         self.portals.update_portals(&sector, &self.costs);
         self.tell_order();
+    }
+
+    /// Scales every sector anew from its base costs, and makes no graph.
+    pub fn scale_again(&mut self) {
+        self.costs.scale_all_costfields(&self.dimensions);
     }
 
     /// The stand-in for the search needs to know the order of portals.
