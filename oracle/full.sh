@@ -26,6 +26,7 @@ compare selfcheck
 
 compare floors --router proved
 compare halls --router proved --seed 201 --count 8000 --routes 2 --changes 8
+compare halls --router proved --seed 206 --count 20000 --routes 0 --changes 6
 compare lent --router proved --seed 202 --count 8000 --routes 2 --changes 8
 compare plans --router proved --seed 203 --count 2000000
 compare damaged --router proved --seed 204 --count 20000
