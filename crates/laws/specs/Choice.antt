@@ -1,12 +1,12 @@
 -- Members of a list, the member that weighs least (the earlier of equals), and the list of all pairs of two lists in order.
-use mathlib.Core.Path.{_≡_, refl, ap}
+use mathlib.Core.Path.{_≡_, refl, ap, _∙_}
 use mathlib.Core.Logic.{_⊎_, inl, inr, _↔_}
 use mathlib.Core.Bool.{Bool, true, false}
 use mathlib.Core.List.{List, [], _∷_, _++_, map}
 use Prim.Native.Nat.{ℕ, _≤_, _<_}
 use native.Mathlib.Omega.{arith}
 use lib.Dec.{ltb}
-use borrow.Author.Tests.{ltb-true, ltb-false}
+use borrow.Author.Tests.{ltb-true, ltb-false, lt-ltb, le-ltb}
 use Rattle.laws.specs.Fold.{pick, pick-keeps}
 
 -- x stands in a list
@@ -113,6 +113,25 @@ module _ {A : Type 0} (w : A → ℕ) where
   unfolding winner beat
   winner-first {xs = []} e = let z : _≡_ {A = ℕ} 0 1 = cc in absurd (omega arith)
   winner-first {xs = x ∷ xs} {z = z} e = won-leads (won xs x z e)
+
+  -- and who leads wins
+  winner-stays : (z : A) (xs : List A) → ((x : A) → In x xs → w z ≤ w x) → winner w (best z) xs ≡ best z
+  unfolding winner beat
+  winner-stays z [] low = refl
+  winner-stays z (x ∷ xs) low = rw (le-ltb (w x) (w z) (low x here)) (winner-stays z xs (λ y i. low y (later i)))
+
+  winner-overtakes : (b : Best A) (z : A) (xs ys : List A) → ((y : A) → b ≡ best y → w z < w y) → ((x : A) → In x xs → w z < w x) → ((y : A) → In y ys → w z ≤ w y) → winner w b (xs ++ (z ∷ ys)) ≡ best z
+  unfolding winner beat
+  winner-overtakes nothing z [] ys first more low = winner-stays z ys low
+  winner-overtakes (best y) z [] ys first more low = ap (λ t. winner w (pick t (best z) (best y)) ys) (lt-ltb (w z) (w y) (first y refl)) ∙ winner-stays z ys low
+  winner-overtakes b z (x ∷ xs) ys first more low = winner-overtakes (beat w b x) z xs ys (λ y e. go b y first e) (λ y i. more y (later i)) low
+    where
+      go : (b : Best A) (y : A) → ((y : A) → b ≡ best y → w z < w y) → beat w b x ≡ best y → w z < w y
+      go nothing y first e = let same : x ≡ y = cc in rw (← same) (more x here)
+      go (best v) y first e = pick-keeps (λ (c : Best A). c ≡ best y → w z < w y) (ltb (w x) (w v)) (best x) (best v) (λ q. let same : x ≡ y = cc in rw (← same) (more x here)) (λ q. let same : v ≡ y = cc in rw (← same) (first v refl)) e
+
+  pub leads-winner : {xs : List A} {z : A} → Leads w z xs → winner w nothing xs ≡ best z
+  leads-winner {xs} {z} h = ap (winner w nothing) (h .split) ∙ winner-overtakes nothing z (h .before) (h .after) (λ y e. let q : _≡_ {A = ℕ} 0 1 = cc in absurd (omega arith)) (h .more) (h .least)
 
   pub winner-in : {xs : List A} {z : A} → winner w nothing xs ≡ best z → In z xs
   winner-in e = let h = winner-first e in rw (h .split) (in-right (h .before) here)

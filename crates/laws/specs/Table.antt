@@ -1,10 +1,13 @@
 -- A table whose entries are given by a rule.
 use mathlib.Core.Path.{_≡_, refl, sym, ap, _∙_}
 use mathlib.Core.List.{List, [], _∷_, _++_}
-use Prim.Native.Nat.{ℕ, zero, suc, _+_, _<_}
+use Prim.Native.Nat.{ℕ, zero, suc, _+_, _<_, _≤_}
 use native.Mathlib.Nat.{add-zero, zero-add, add-suc, suc-add, le-of-suc-le-suc, not-suc-le-zero}
 use native.Mathlib.Numerals.{add-one}
-use lib.ListN.{getD, length}
+use native.Mathlib.Decide.{ℕ-discrete}
+use native.Mathlib.Omega.{arith}
+use lib.ListN.{getD, length, set, length-set}
+use lib.Seq.{ext-getD, getD-set-same, getD-set-other}
 
 -- n entries, from f i on
 unfoldable pub tabulate : {A : Type 0} → (ℕ → A) → ℕ → ℕ → List A
@@ -43,3 +46,25 @@ pub getD-default : (l : List ℕ) (n a b : ℕ) → n < length l → getD l n a 
 getD-default [] n a b h = absurd (not-suc-le-zero h)
 getD-default (x ∷ l) zero a b h = refl
 getD-default (x ∷ l) (suc n) a b h = getD-default l n a b (le-of-suc-le-suc h)
+
+-- ---- a list of n entries that is being filled: those before i are as the rule says
+pub record Tabled (f : ℕ → ℕ) (n i : ℕ) (t : List ℕ) : Type 0 where
+  pub within : i ≤ n
+  pub long : length t ≡ n
+  pub at : (k : ℕ) → k < i → getD t k 0 ≡ f k
+
+pub tabled-none : (f : ℕ → ℕ) (n : ℕ) (t : List ℕ) → length t ≡ n → Tabled f n 0 t
+tabled-none f n t l = record { within = omega arith; long = l; at = λ k m. absurd (omega arith) }
+
+pub tabled-more : {f : ℕ → ℕ} {n i w : ℕ} {t : List ℕ} → Tabled f n i t → i < n → w ≡ f i → Tabled f n (i + 1) (set t i w)
+tabled-more {f} {n} {i} {w} {t} r l q = record { within = omega arith; long = length-set t i w ∙ r .long; at = λ k m. go k m (ℕ-discrete k i) }
+  where
+    go : (k : ℕ) → k < i + 1 → Dec (k ≡ i) → getD (set t i w) k 0 ≡ f k
+    go k m (yes z) = rw (z, getD-set-same t i w 0 (omega (arith, r .long))) q
+    go k m (no z) = getD-set-other t i k w 0 z ∙ r .at k (omega arith)
+
+pub tabled-all : {f : ℕ → ℕ} {n i : ℕ} {t : List ℕ} → Tabled f n i t → n ≤ i → t ≡ tabulate f n 0
+tabled-all {f} {n} {i} {t} r l = ext-getD 0 t (tabulate f n 0) (r .long ∙ sym (length-tabulate f n 0)) (λ k m. r .at k (omega (arith, r .long)) ∙ sym (tabulate-at f n k 0 (omega (arith, r .long))))
+
+-- for `search (needs, tabling)`
+pub ruleset tabling = (tabled-none, tabled-more, tabled-all)

@@ -1,0 +1,118 @@
+-- The lists that a rule gives for the numbers from a on, one after another: pairs of passing numbers as such a row, and its leading member.
+use Prim.Native.Nat.{ℕ, zero, suc, _+_, _-_, _*_, _/_, _%_, _≤_, _<_}
+use native.Mathlib.Nat.{add-zero, zero-add, add-suc, suc-add}
+use native.Mathlib.Omega.{arith}
+use mathlib.Core.Path.{_≡_, refl, sym, ap, _∙_}
+use mathlib.Core.Logic.{_⊎_, inl, inr}
+use mathlib.Core.Bool.{Bool, true, false}
+use mathlib.Core.List.{List, [], _∷_, _++_, map, append-assoc, append-nil}
+use Rattle.laws.specs.Fold.{pick}
+use Rattle.laws.specs.Search.{passing}
+use Rattle.laws.specs.Choice.{In, in-either, each, pairs, Leads}
+
+-- n lists from g a on
+unfoldable pub spans : {A : Type 0} → (ℕ → List A) → ℕ → ℕ → List A
+spans g zero a = []
+spans g (suc n) a = g a ++ spans g n (suc a)
+
+pub spans-is : {A : Type 0} (g : ℕ → List A) (n a : ℕ) {x : A} → In x (spans g n a) → (k : ℕ) × (a ≤ k) × (k < a + n) × In x (g k)
+unfolding spans
+spans-is {A} g (suc n) a {x} i = go (in-either (g a) (spans g n (suc a)) i) (λ j. spans-is g n (suc a) j)
+  where
+    go : In x (g a) ⊎ In x (spans g n (suc a)) → (In x (spans g n (suc a)) → (k : ℕ) × (suc a ≤ k) × (k < suc a + n) × In x (g k)) → (k : ℕ) × (a ≤ k) × (k < a + suc n) × In x (g k)
+    go (inl j) rest = (a, omega arith, omega arith, j)
+    go (inr j) rest = let r = rest j in (r .0, omega (arith, r .1), omega (arith, r .2), r .3)
+
+-- two rules that give the same lists, each from its own number on
+pub spans-same : {A : Type 0} (f g : ℕ → List A) (n a b : ℕ) → ((k : ℕ) → k < n → f (a + k) ≡ g (b + k)) → spans f n a ≡ spans g n b
+unfolding spans
+spans-same f g zero a b same = refl
+spans-same {A} f g (suc n) a b same =
+    let here : f a ≡ g b = rw (add-zero a, add-zero b) at (same 0 (omega arith)) in
+    let rest : (k : ℕ) → k < n → f (suc a + k) ≡ g (suc b + k) = λ k l. rw (add-suc a k, add-suc b k, ← suc-add a k, ← suc-add b k) at (same (suc k) (omega arith)) in
+    rw here (ap (λ (t : List A). g b ++ t) (spans-same f g n (suc a) (suc b) rest))
+
+pub spans-join : {A : Type 0} (g : ℕ → List A) (n m a : ℕ) → spans g (n + m) a ≡ spans g n a ++ spans g m (a + n)
+unfolding spans
+spans-join g zero m a = rw (zero-add m, add-zero a)
+spans-join {A} g (suc n) m a =
+    rw (suc-add n m) (ap (λ (t : List A). g a ++ t) (spans-join g n m (suc a)) ∙ sym (append-assoc (g a) (spans g n (suc a)) (spans g m (suc a + n))) ∙ ap (λ (k : ℕ). (g a ++ spans g n (suc a)) ++ spans g m k) (suc-add a n ∙ sym (add-suc a n)))
+
+pub spans-empty : {A : Type 0} (g : ℕ → List A) (n a : ℕ) → ((k : ℕ) → g k ≡ []) → spans g n a ≡ []
+unfolding spans
+spans-empty g zero a none = refl
+spans-empty g (suc n) a none = rw (none a) (spans-empty g n (suc a) none)
+
+-- ---- passing numbers
+pub each-passing : {A : Type 0} (f : ℕ → List A) (p : ℕ → Bool) (n a : ℕ) → each f (passing p n a) ≡ spans (λ v. pick (p v) (f v) []) n a
+unfolding each passing spans
+each-passing f p zero a = refl
+each-passing {A} f p (suc n) a = go (p a) ∙ ap (λ (t : List A). pick (p a) (f a) [] ++ t) (each-passing f p n (suc a))
+  where
+    go : (t : Bool) → each f (pick t (a ∷ passing p n (suc a)) (passing p n (suc a))) ≡ pick t (f a) [] ++ each f (passing p n (suc a))
+    go true = refl
+    go false = refl
+
+each-map : {A B C : Type 0} (f : B → List C) (g : A → B) (xs : List A) → each f (map g xs) ≡ each (λ x. f (g x)) xs
+unfolding each
+each-map f g [] = refl
+each-map {C = C} f g (x ∷ xs) = ap (λ (t : List C). f (g x) ++ t) (each-map f g xs)
+
+each-same : {A B : Type 0} (f g : A → List B) (xs : List A) → ((x : A) → f x ≡ g x) → each f xs ≡ each g xs
+unfolding each
+each-same f g [] same = refl
+each-same {B = B} f g (x ∷ xs) same = rw (same x) (ap (λ (t : List B). g x ++ t) (each-same f g xs same))
+
+-- what the pair of a + k / 20 and b + k % 20 gives, if both pass
+abbrev pub cell : {A B : Type 0} → (ℕ → B → List A) → (ℕ → B) → (ℕ → Bool) → (ℕ → Bool) → ℕ → ℕ → ℕ → List A
+cell f g p q a b k = pick (p (a + k / 20)) (pick (q (b + k % 20)) (f (a + k / 20) (g (b + k % 20))) []) []
+
+module _ {A B : Type 0} (f : ℕ → B → List A) (g : ℕ → B) (p q : ℕ → Bool) where
+  -- row by row
+  abbrev inner : ℕ → ℕ → List A
+  inner b v = spans (λ w. pick (q w) (f v (g w)) []) 20 b
+
+  row-is : (n a b : ℕ) → spans (cell f g p q a b) 20 (n * 20) ≡ pick (p (a + n)) (inner b (a + n)) []
+  row-is n a b = spans-same (cell f g p q a b) (λ w. pick (p (a + n)) (pick (q w) (f (a + n) (g w)) []) []) 20 (n * 20) b (λ k l. at k (omega arith) (omega arith)) ∙ go (p (a + n))
+    where
+      at : (k : ℕ) {i j : ℕ} → i ≡ n → j ≡ k → pick (p (a + i)) (pick (q (b + j)) (f (a + i) (g (b + j))) []) [] ≡ pick (p (a + n)) (pick (q (b + k)) (f (a + n) (g (b + k))) []) []
+      at k e h = rw (e, h)
+
+      go : (t : Bool) → spans (λ w. pick t (pick (q w) (f (a + n) (g w)) []) []) 20 b ≡ pick t (inner b (a + n)) []
+      go true = refl
+      go false = spans-empty (λ w. []) 20 b (λ k. refl)
+
+  rows : (n a b : ℕ) → spans (λ v. pick (p v) (inner b v) []) n a ≡ spans (cell f g p q a b) (n * 20) 0
+  unfolding spans
+  rows zero a b = refl
+  rows (suc n) a b =
+      let one : suc n ≡ n + 1 = omega arith in
+      let turn : suc n * 20 ≡ n * 20 + 20 = omega arith in
+      let first : ℕ → List A = λ v. pick (p v) (inner b v) [] in
+      ap (λ (k : ℕ). spans first k a) one ∙ spans-join first n 1 a ∙ ap (λ (t : List A). spans first n a ++ t) (append-nil (first (a + n)))
+      ∙ rw (rows n a b, ← row-is n a b) (sym (ap (λ (k : ℕ). spans (cell f g p q a b) k 0) turn ∙ spans-join (cell f g p q a b) (n * 20) 20 0 ∙ ap (λ (k : ℕ). spans (cell f g p q a b) (n * 20) 0 ++ spans (cell f g p q a b) 20 k) (zero-add (n * 20))))
+
+  pub pairs-in-row : (a b : ℕ) → pairs f (passing p 20 a) (map g (passing q 20 b)) ≡ spans (cell f g p q a b) 400 0
+  unfolding pairs
+  pairs-in-row a b = each-same (λ x. each (f x) (map g (passing q 20 b))) (inner b) (passing p 20 a) (λ x. each-map (f x) g (passing q 20 b) ∙ each-passing (λ w. f x (g w)) q 20 b) ∙ each-passing (inner b) p 20 a ∙ rows 20 a b
+
+-- ---- the leading member of a row, by what each place weighs
+module _ {A : Type 0} (g : ℕ → List A) (n : ℕ) where
+  pub spans-none : ((k : ℕ) → k < n → g k ≡ []) → spans g n 0 ≡ []
+  spans-none none = spans-same g (λ k. []) n 0 0 (λ k l. rw (zero-add k) (none k l)) ∙ spans-empty (λ k. []) n 0 (λ k. refl)
+
+  spans-split : (r : ℕ) → r < n → {z : A} → g r ≡ z ∷ [] → spans g n 0 ≡ spans g r 0 ++ (z ∷ spans g (n - suc r) (suc r))
+  unfolding spans
+  spans-split r l {z} e =
+      let sum : n ≡ r + suc (n - suc r) = omega arith in
+      ap (λ (k : ℕ). spans g k 0) sum ∙ spans-join g r (suc (n - suc r)) 0 ∙ rw (zero-add r) (ap (λ (t : List A). spans g r 0 ++ (t ++ spans g (n - suc r) (suc r))) e)
+
+  pub spans-leads : (w : A → ℕ) (weights : ℕ → ℕ) → ((k : ℕ) → k < n → (x : A) → In x (g k) → weights k ≡ w x)
+      → (r : ℕ) → r < n → {z : A} → g r ≡ z ∷ [] → ((k : ℕ) → k < r → w z < weights k) → ((k : ℕ) → k < n → w z ≤ weights k) → Leads w z (spans g n 0)
+  spans-leads w weights weighs r l {z} e more least = record {
+    before = spans g r 0;
+    after = spans g (n - suc r) (suc r);
+    split = spans-split r l e;
+    more = λ x i. let s = spans-is g r 0 i in omega (arith, more (s .0) (omega (arith, s .2)), weighs (s .0) (omega (arith, s .2)) x (s .3));
+    least = λ x i. let s = spans-is g (n - suc r) (suc r) i in let k : s .0 < n = omega (arith, s .1, s .2) in omega (arith, least (s .0) k, weighs (s .0) k x (s .3));
+  }
