@@ -63,6 +63,9 @@ tabled-more {f} {n} {i} {w} {t} r l q = record { within = omega arith; long = le
     go k m (yes z) = rw (z, getD-set-same t i w 0 (omega (arith, r .long))) q
     go k m (no z) = getD-set-other t i k w 0 z ∙ r .at k (omega arith)
 
+pub tabled-same : {f g : ℕ → ℕ} {n i : ℕ} {t : List ℕ} → Tabled f n i t → ((k : ℕ) → k < n → f k ≡ g k) → Tabled g n i t
+tabled-same r same = record { within = r .within; long = r .long; at = λ k l. r .at k l ∙ same k (omega (arith, r .within)) }
+
 pub tabled-all : {f : ℕ → ℕ} {n i : ℕ} {t : List ℕ} → Tabled f n i t → n ≤ i → t ≡ tabulate f n 0
 tabled-all {f} {n} {i} {t} r l = ext-getD 0 t (tabulate f n 0) (r .long ∙ sym (length-tabulate f n 0)) (λ k m. r .at k (omega (arith, r .long)) ∙ sym (tabulate-at f n k 0 (omega (arith, r .long))))
 

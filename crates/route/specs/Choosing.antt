@@ -1,7 +1,8 @@
 -- The runs of all pairs as one list, the first of the least in the order of pairs, and that it is 01's pair.
 use Prim.Native.Nat.{ℕ, _+_, _*_, _/_, _%_, _≤_, _<_}
 use native.Mathlib.Omega.{arith}
-use mathlib.Core.Path.{_≡_, refl, sym, ap, _∙_}
+use native.Mathlib.Decide.{ℕ-discrete}
+use mathlib.Core.Path.{_≡_, refl, sym, ap, subst, _∙_}
 use mathlib.Core.Logic.{_⊎_, inl, inr}
 use mathlib.Core.Bool.{Bool, true, false, _&&_}
 use mathlib.Core.List.{List, [], _∷_}
@@ -10,7 +11,7 @@ use lib.ListN.{length, getD}
 use borrow.Author.Tests.{ltb-true, ltb-false, lt-ltb, le-ltb}
 use Rattle.laws.specs.Fold.{pick}
 use Rattle.laws.specs.Table.{tabulate, table-at}
-use Rattle.laws.specs.Graph.{Graph}
+use Rattle.laws.specs.Graph.{Graph, below-or}
 use Rattle.laws.specs.Choice.{In, here, in-cons, Best, nothing, best, winner, pairs, leads-winner}
 use Rattle.laws.specs.Spans.{spans, cell, pairs-in-row, spans-none, spans-leads}
 use Rattle.model.specs.Sectors.{sectorOf}
@@ -26,23 +27,125 @@ use Rattle.route.specs.Near.{portalMoves, start-test, end-test, last-mov
 unfoldable pub runFor : ℕ → ℕ → ℕ → ℕ
 runFor key leg last = pick (ltb leg apart && (ltb last apart && ltb key unlinked)) (costOfKey key + last) unlinked
 
+-- in the cases that code meets
+module _ (key leg last : ℕ) where
+  pub no-leg : leg ≡ 255 → unlinked ≡ runFor key leg last
+  unfolding runFor
+  no-leg e = rw e refl
+
+  pub no-last : 255 ≤ last → unlinked ≡ runFor key leg last
+  unfolding runFor
+  no-last l = go (ltb leg apart)
+    where
+      go : (t : Bool) → unlinked ≡ pick (t && (ltb last apart && ltb key unlinked)) (costOfKey key + last) unlinked
+      go true = rw (le-ltb last apart l) refl
+      go false = refl
+
+  pub no-path : key ≡ unlinked → unlinked ≡ runFor key leg last
+  unfolding runFor
+  no-path e = go (ltb leg apart) (ltb last apart)
+    where
+      go : (t s : Bool) → unlinked ≡ pick (t && (s && ltb key unlinked)) (costOfKey key + last) unlinked
+      go true true = rw e refl
+      go true false = refl
+      go false s = refl
+
+  pub some-run : leg < apart → last < apart → key < unlinked → costOfKey key + last ≡ runFor key leg last
+  unfolding runFor
+  some-run a b d = rw (lt-ltb leg apart a, lt-ltb last apart b, lt-ltb key unlinked d)
+
 -- entry k: from place k % 20 of the start sector to place k / 20 of the end sector, whose first numbers are p and q
 unfoldable pub runIn : Graph → List ℕ → List ℕ → ℕ → ℕ → ℕ → ℕ
 runIn g legs lasts p q k = runFor (getD (keysTo g (q + k / 20)) (p + k % 20) 0) (getD legs (k % 20) 0) (getD lasts (k / 20) 0)
+
+-- the entries to the end at place d, where the keys are those to it unless it is no end
+pub row-runs : (g : Graph) (legs lasts : List ℕ) (p q d : ℕ) {keys : List ℕ} {last : ℕ} → last ≡ getD lasts d 0 → (last < apart → keys ≡ keysTo g (q + d)) → (c : ℕ) → c < 20 → runFor (getD keys (p + c) 0) (getD legs c 0) last ≡ runIn g legs lasts p q (d * 20 + c)
+unfolding runIn
+row-runs g legs lasts p q d {keys} {last} e found c l =
+    let end : (d * 20 + c) / 20 ≡ d = omega arith in
+    let start : (d * 20 + c) % 20 ≡ c = omega arith in
+    rw (end, start, ← e) (go (below-or last apart))
+  where
+    go : (last < apart) ⊎ (apart ≤ last) → runFor (getD keys (p + c) 0) (getD legs c 0) last ≡ runFor (getD (keysTo g (q + d)) (p + c) 0) (getD legs c 0) last
+    go (inl k) = rw (found k)
+    go (inr k) = sym (no-last (getD keys (p + c) 0) (getD legs c 0) last k) ∙ no-last (getD (keysTo g (q + d)) (p + c) 0) (getD legs c 0) last k
 
 -- the run of pair j, start by start
 abbrev pub nth : List ℕ → ℕ → ℕ
 nth runs j = getD runs (j % 20 * 20 + j / 20) 0
 
--- the first of the least: none, or pair r
-pub data Foremost (runs : List ℕ) (r : ℕ) : Type 0 where
-  no-pair : r ≡ 400 → ((j : ℕ) → j < 400 → unlinked ≤ nth runs j) → Foremost runs r
-  pair : r < 400 → nth runs r < unlinked → ((j : ℕ) → j < r → nth runs r < nth runs j) → ((j : ℕ) → j < 400 → nth runs r ≤ nth runs j) → Foremost runs r
+-- the same, with no run past the last pair
+unfoldable pub runAt : List ℕ → ℕ → ℕ
+runAt runs j = pick (ltb j 400) (nth runs j) unlinked
 
--- ---- while it is looked for: best is the first of the least below j, and low its run
-pub data Ahead (runs : List ℕ) (j : ℕ) : ℕ → ℕ → Type 0 where
-  none-yet : ((i : ℕ) → i < j → unlinked ≤ nth runs i) → Ahead runs j 400 unlinked
-  one-is : {r low : ℕ} → r < 400 → low ≡ nth runs r → low < unlinked → ((i : ℕ) → i < r → low < nth runs i) → ((i : ℕ) → i < j → low ≤ nth runs i) → Ahead runs j r low
+pub run-in : (runs : List ℕ) (j : ℕ) → j < 400 → nth runs j ≡ runAt runs j
+unfolding runAt
+run-in runs j l = rw (lt-ltb j 400 l)
+
+pub run-past : (runs : List ℕ) (j : ℕ) → 400 ≤ j → unlinked ≡ runAt runs j
+unfolding runAt
+run-past runs j l = rw (le-ltb j 400 l)
+
+pub lesser-yes : (runs : List ℕ) (j r : ℕ) {x y : ℕ} → x ≡ runAt runs j → y ≡ runAt runs r → x < y → j ≡ pick (ltb (runAt runs j) (runAt runs r)) j r
+lesser-yes runs j r {x} {y} e f l = rw (← e, ← f, lt-ltb x y l)
+
+pub lesser-no : (runs : List ℕ) (j r : ℕ) {x y : ℕ} → x ≡ runAt runs j → y ≡ runAt runs r → y ≤ x → r ≡ pick (ltb (runAt runs j) (runAt runs r)) j r
+lesser-no runs j r {x} {y} e f l = rw (← e, ← f, le-ltb x y l)
+
+-- of the first n, the first of the least: none, or pair r
+pub data Foremost (runs : List ℕ) (n r : ℕ) : Type 0 where
+  no-pair : r ≡ 400 → ((j : ℕ) → j < n → unlinked ≤ nth runs j) → Foremost runs n r
+  pair : r < 400 → nth runs r < unlinked → ((j : ℕ) → j < r → nth runs r < nth runs j) → ((j : ℕ) → j < n → nth runs r ≤ nth runs j) → Foremost runs n r
+
+pub foremost-none : (runs : List ℕ) → Foremost runs 0 400
+foremost-none runs = no-pair refl (λ j l. absurd (omega arith))
+
+-- what holds of those before and of the last holds of all
+one-more : (P : ℕ → Type 0) {n : ℕ} → ((j : ℕ) → j < n → P j) → P n → (j : ℕ) → j < n + 1 → P j
+one-more P {n} before last j l = go (ℕ-discrete j n)
+  where
+    go : Dec (j ≡ n) → P j
+    go (yes e) = subst P (sym e) last
+    go (no e) = before j (omega arith)
+
+pub foremost-turn : {runs : List ℕ} {n best r : ℕ} → Foremost runs n best → n < 400 → r ≡ pick (ltb (runAt runs n) (runAt runs best)) n best → Foremost runs (n + 1) r
+unfolding runAt
+foremost-turn {runs} {n} {best} {r} f l e = rw e (go (ltb (runAt runs n) (runAt runs best)) refl)
+  where
+    now : runAt runs n ≡ nth runs n
+    now = rw (lt-ltb n 400 l)
+
+    go : (t : Bool) → ltb (runAt runs n) (runAt runs best) ≡ t → Foremost runs (n + 1) (pick t n best)
+    go true t = wins f
+      where
+        less : runAt runs n < runAt runs best
+        less = ltb-true (runAt runs n) (runAt runs best) t
+
+        wins : Foremost runs n best → Foremost runs (n + 1) n
+        wins (no-pair q all) =
+            let top : runAt runs best ≡ unlinked = rw q refl in
+            pair l (omega (arith, less, now, top)) (λ j k. omega (arith, less, now, top, all j k)) (one-more (λ j. nth runs n ≤ nth runs j) (λ j k. omega (arith, less, now, top, all j k)) (omega arith))
+        wins (pair k below more least) =
+            let old : runAt runs best ≡ nth runs best = rw (lt-ltb best 400 k) in
+            pair l (omega (arith, less, now, old)) (λ j i. omega (arith, less, now, old, least j i)) (one-more (λ j. nth runs n ≤ nth runs j) (λ j i. omega (arith, less, now, old, least j i)) (omega arith))
+    go false t = stays f
+      where
+        more : runAt runs best ≤ runAt runs n
+        more = ltb-false (runAt runs n) (runAt runs best) t
+
+        stays : Foremost runs n best → Foremost runs (n + 1) best
+        stays (no-pair q all) =
+            let top : runAt runs best ≡ unlinked = rw q refl in
+            no-pair q (one-more (λ j. unlinked ≤ nth runs j) all (omega (arith, more, now, top)))
+        stays (pair k below first least) =
+            let old : runAt runs best ≡ nth runs best = rw (lt-ltb best 400 k) in
+            pair k below first (one-more (λ j. nth runs best ≤ nth runs j) least (omega (arith, more, now, old)))
+
+pub foremost-end : {runs : List ℕ} {n r : ℕ} → Foremost runs n r → n ≤ 400 → 400 ≤ n → Foremost runs 400 r
+foremost-end {runs} {n} {r} f a b = let all : n ≡ 400 = omega arith in rw all at f
+
+-- for `search (needs, foremost)`
+pub ruleset foremost = (foremost-none, foremost-turn, foremost-end)
 
 -- ---- the pair
 module _ (h : Hall) (fits : Fits h) (source goal : ℕ) where

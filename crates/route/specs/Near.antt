@@ -2,6 +2,7 @@
 use Prim.Native.Nat.{ℕ, _+_, _*_, _/_, _%_, _≤_, _<_}
 use native.Mathlib.Omega.{arith}
 use mathlib.Core.Path.{_≡_, refl, sym, ap, _∙_}
+use mathlib.Core.Logic.{_⊎_, inl, inr}
 use mathlib.Core.Bool.{Bool, true, false, _&&_}
 use mathlib.Core.List.{List}
 use lib.Dec.{ltb, eqb}
@@ -9,7 +10,8 @@ use lib.ListN.{length, getD}
 use borrow.Author.Tests.{ltb-true, ltb-false, lt-ltb, le-ltb, eq-eqb, ne-eqb}
 use Rattle.laws.specs.Fold.{pick}
 use Rattle.laws.specs.Search.{both}
-use Rattle.laws.specs.Table.{tabulate, length-tabulate, tabulate-at}
+use Rattle.laws.specs.Graph.{below-or}
+use Rattle.laws.specs.Table.{tabulate, tabulate-at, table-at, Tabled, tabled-same, tabled-all}
 use Rattle.model.specs.Sectors.{sectorOf, placeOf, costsOf}
 use Rattle.model.specs.Moves.{moves, movesTo, joined, apart}
 use Rattle.model.specs.MovesFewest.{Joined, joined-is, is-joined, joined-back, moves-settled}
@@ -32,6 +34,46 @@ nearBy from mid = pick (ltb mid 100) (getD from mid 0) apart
 -- from cell x to the portals of its sector
 unfoldable pub portalMoves : Hall → ℕ → List ℕ
 portalMoves h x = tabulate (λ c. nearBy (moves (costsOf (h .scaled) (sectorOf x)) (placeOf x)) (midOf h (sectorOf x * 20 + c))) 20 0
+
+-- in the cases that code meets
+pub mid-some : (h : Hall) (p : ℕ) {n : ℕ} → isPortal h p ≡ true → n ≡ midpoint h p → n ≡ midOf h p
+unfolding midOf
+mid-some h p e f = rw e f
+
+pub mid-none : (h : Hall) (p : ℕ) → isPortal h p ≡ false → 100 ≡ midOf h p
+unfolding midOf
+mid-none h p e = rw e refl
+
+pub near-none : (from : List ℕ) (mid : ℕ) → 100 ≤ mid → apart ≡ nearBy from mid
+unfolding nearBy
+near-none from mid l = rw (le-ltb mid 100 l)
+
+pub near-some : (from : List ℕ) (mid : ℕ) {n : ℕ} → mid < 100 → n ≡ mid → getD from n 0 ≡ nearBy from mid
+unfolding nearBy
+near-some from mid l e = rw (lt-ltb mid 100 l, e)
+
+pub other-sector : (costs : List ℕ) (x y : ℕ) → (sectorOf x ≡ sectorOf y → ⊥) → apart ≡ pick (joined costs x y) (movesTo costs x y) apart
+unfolding joined
+other-sector costs x y n = rw (ne-eqb (sectorOf x) (sectorOf y) n) refl
+
+pub same-sector : (costs : List ℕ) (x y : ℕ) {from : List ℕ} → sectorOf x ≡ sectorOf y → from ≡ moves (costsOf costs (sectorOf x)) (placeOf x) → getD from (placeOf y) 0 ≡ pick (joined costs x y) (movesTo costs x y) apart
+unfolding joined movesTo
+same-sector costs x y {from} e f = rw (f, eq-eqb (sectorOf x) (sectorOf y) e) (go (below-or (getD d (placeOf y) 0) apart))
+  where
+    d : List ℕ
+    d = moves (costsOf costs (sectorOf x)) (placeOf x)
+
+    cap : getD d (placeOf y) 0 ≤ apart
+    cap = moves-settled (costsOf costs (sectorOf x)) (placeOf x) (omega arith) .rough .capped (placeOf y) (omega arith)
+
+    go : (getD d (placeOf y) 0 < apart) ⊎ (apart ≤ getD d (placeOf y) 0) → getD d (placeOf y) 0 ≡ pick (ltb (getD d (placeOf y) 0) apart) (getD d (placeOf y) 0) apart
+    go (inl l) = rw (lt-ltb (getD d (placeOf y) 0) apart l)
+    go (inr l) = rw (le-ltb (getD d (placeOf y) 0) apart l) (omega (arith, cap))
+
+-- entries by the moves of the sector and its midpoints
+pub near-list : (h : Hall) (x : ℕ) {from mids near : List ℕ} {c : ℕ} → from ≡ moves (costsOf (h .scaled) (sectorOf x)) (placeOf x) → mids ≡ sectorMids h (sectorOf x) → Tabled (λ k. nearBy from (getD mids k 0)) 20 c near → 20 ≤ c → near ≡ portalMoves h x
+unfolding sectorMids portalMoves
+near-list h x {from} {mids} e f t l = tabled-all (tabled-same t (λ k b. rw e (ap (nearBy (moves (costsOf (h .scaled) (sectorOf x)) (placeOf x))) (table-at (λ c. midOf h (sectorOf x * 20 + c)) 20 f k 0 b)))) l
 
 -- "joined" goes both ways
 joined-same : (costs : List ℕ) (x y : ℕ) → joined costs y x ≡ joined costs x y

@@ -1,7 +1,9 @@
 // The pair of a start and an end portal with the least run; of equals, the one that comes first start by start.
 ghost use mathlib.Core.Path.{_≡_};
 ghost use Prim.Native.Nat.{ℕ, _+_, _*_, _≤_, _<_};
+ghost use lib.Dec.{ltb};
 ghost use lib.ListN.{length, getD};
+ghost use Rattle.laws.specs.Fold.{pick};
 ghost use Rattle.laws.specs.Table.{Tabled, tabulate};
 ghost use Rattle.laws.specs.Graph.{BothWays};
 ghost use Rattle.model.specs.Sectors.{sectors};
@@ -9,7 +11,7 @@ ghost use Rattle.model.specs.Moves.{apart};
 ghost use Rattle.model.specs.LeastPath.{keysTo};
 ghost use Rattle.route.specs.EdgeTable.{tableGraph};
 ghost use Rattle.route.specs.Searching.{Searched};
-ghost use Rattle.route.specs.Choosing.{runFor, runIn, Foremost};
+ghost use Rattle.route.specs.Choosing.{runFor, runIn, runAt, Foremost};
 use crate::keys::keys_to;
 use model::Measures;
 
@@ -76,20 +78,37 @@ pub fn fill_runs(
     }
 }
 
+// The run of pair j, start by start; 4294967295 past the last.
+fn run_at(runs: &[u32], j: usize) -> u32
+    requires { ⌜ length (now runs) ≡ 400 ⌝ }
+    ensures { λ r. ⌜ r ≡ runAt (now (runs .entry)) j ⌝ }
+{
+    if j < 400 {
+        return runs[j % 20 * 20 + j / 20];
+    }
+    4294967295
+}
+
+// Pair j where its run is less than that of the best so far, else the best.
+fn lesser(runs: &[u32], best: usize, j: usize) -> usize
+    requires { ⌜ length (now runs) ≡ 400 ⌝ }
+    ensures { λ r. ⌜ r ≡ pick (ltb (runAt (now (runs .entry)) j) (runAt (now (runs .entry)) best)) j best ⌝ }
+{
+    if run_at(runs, j) < run_at(runs, best) {
+        return j;
+    }
+    best
+}
+
 // The number of the first pair of the least run, start by start, or 400 where there is none.
 pub fn choose(runs: &[u32]) -> usize
     requires { ⌜ length (now runs) ≡ 400 ⌝ }
-    ensures { λ r. ⌜ Foremost (now (runs .entry)) r ⌝ }
+    ensures { λ r. ⌜ Foremost (now (runs .entry)) 400 r ⌝ }
 {
     let mut best = 400;
-    let mut low = 4294967295;
     let mut j = 0;
     while j < 400 {
-        let run = runs[j % 20 * 20 + j / 20];
-        if run < low {
-            low = run;
-            best = j;
-        }
+        best = lesser(runs, best, j);
         j += 1;
     }
     best

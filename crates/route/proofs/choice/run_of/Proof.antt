@@ -1,28 +1,24 @@
+-- `run_of` answers by the three tests of a pair.
+use native.Mathlib.Omega.{arith}
+use Rattle.route.specs.Choosing.{no-leg, no-last, no-path, some-run}
 use borrow.Author.Needs.{needs}
 use Rattle.route.proofs.choice.run_of.Statement.{statement}
 use Rattle.route.proofs.choice.run_of.Tie as tie
-use Rattle.route.proofs.choice.run_of.Reads as reads
-use Rattle.route.proofs.choice.run_of.Lts as lts
 
--- src/choice.rt:21:9
 returns : tie.Need-returns
-returns c = ?
+returns c = no-leg _ _ _ (c .if1 .taken)
 
--- src/choice.rt:24:9
 returns-2 : tie.Need-returns-2
-returns-2 c = ?
+returns-2 c = no-last _ _ _ (omega arith)
 
--- src/choice.rt:27:9
 returns-3 : tie.Need-returns-3
-returns-3 c = ?
+returns-3 c = no-path _ _ _ (c .if3 .taken)
 
--- src/choice.rt:29:5
 add-result : tie.Need-add-result
 add-result c = search needs
 
--- src/choice.rt:17:1
 returns-4 : tie.Need-returns-4
-returns-4 c = ?
+returns-4 c = some-run _ _ _ (omega arith) (omega arith) (omega arith)
 
 pub run-of-spec : {M : Type 1} → statement M
 run-of-spec = tie.close (tie.spec returns returns-2 returns-3 add-result returns-4)

@@ -1,54 +1,48 @@
+-- `sector_mids` takes the midpoint of each place.
+use Prim.Native.Nat.{_+_, _-_, _*_}
+use borrow.Author.Needs.{needs}
+use Rattle.laws.specs.Table.{Tabled, tabling}
+use Rattle.model.specs.Store.{decode}
+use Rattle.route.specs.Near.{midOf, sectorMids}
 use Rattle.route.proofs.near.sector_mids.Statement.{statement}
 use Rattle.route.proofs.near.sector_mids.Tie as tie
-use Rattle.route.proofs.near.sector_mids.Reads as reads
-use Rattle.route.proofs.near.sector_mids.Lts as lts
-use Rattle.route.proofs.near.mid_of.Reads as mid-of-reads
 
 abbrev Inv-loop : tie.InvT-loop
-Inv-loop st m s mids₀ c₀ mids c = ?
+Inv-loop st m s mids₀ c₀ mids c = Tabled (λ k. midOf (decode st) (s * 20 + k)) 20 c mids
 
 abbrev μ-loop : tie.MeasureT-loop
-μ-loop st m s mids₀ c₀ mids c = ?
+μ-loop st m s mids₀ c₀ mids c = 20 - c
 
--- src/near.rt:36:5
 loop-holds : tie.Need-loop-holds Inv-loop μ-loop
-loop-holds c = ?
+loop-holds c = search (needs, tabling)
 
--- src/near.rt:37:33
 mul-mid-of : tie.Need-mul-mid-of Inv-loop μ-loop
-mul-mid-of c = ?
+mul-mid-of c = search needs
 
--- src/near.rt:37:33
 add-mid-of : tie.Need-add-mid-of Inv-loop μ-loop
-add-mid-of c = ?
+add-mid-of c = search needs
 
--- src/near.rt:37:19
 mid-of-requires : tie.Need-mid-of-requires Inv-loop μ-loop
-mid-of-requires c κs = ?
+mid-of-requires c κs = search needs
 
--- src/near.rt:37:9
 slice-write-mids : tie.Need-slice-write-mids Inv-loop μ-loop
-slice-write-mids c = ?
+slice-write-mids c = search needs
 
--- src/near.rt:38:9
 add-c : tie.Need-add-c Inv-loop μ-loop
-add-c c = ?
+add-c c = search needs
 
--- src/near.rt:36:5
 loop-less : tie.Need-loop-less Inv-loop μ-loop
-loop-less c = ?
+loop-less c = search needs
 
--- src/near.rt:36:5
 loop-again : tie.Need-loop-again Inv-loop μ-loop
-loop-again c = ?
+loop-again c = search (needs, tabling)
 
--- src/near.rt:31:1
 same-length : tie.Need-same-length Inv-loop μ-loop
-same-length c = ?
+same-length c = search needs
 
--- src/near.rt:31:1
 returns : tie.Need-returns Inv-loop μ-loop
-returns c = ?
+unfolding sectorMids
+returns c = search (needs, tabling)
 
 pub sector-mids-spec : {M : Type 1} → statement M
 sector-mids-spec =
