@@ -4,3 +4,5 @@ pub mod Reading
 pub mod Weights
 pub mod Searching
 pub mod Following
+pub mod PortalPaths
+pub mod Stepping

@@ -3,3 +3,4 @@ pub mod edges;
 pub mod keys;
 pub mod path;
 pub mod portals;
+pub mod steps;
