@@ -6,3 +6,5 @@ pub mod Searching
 pub mod Following
 pub mod Near
 pub mod Choosing
+pub mod PortalPaths
+pub mod Stepping

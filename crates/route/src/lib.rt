@@ -5,3 +5,4 @@ pub mod keys;
 pub mod near;
 pub mod path;
 pub mod portals;
+pub mod steps;

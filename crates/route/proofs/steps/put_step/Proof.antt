@@ -1,0 +1,48 @@
+-- `put_step` writes six bytes at the front, and leaves the others as they were.
+use borrow.Author.Needs.{needs}
+use native.Mathlib.Omega.{arith}
+use mathlib.Core.List.{[], _∷_}
+use lib.ListN.{length-set}
+use lib.Seq.{sets-eq}
+use denote.Ref.{now}
+use Rattle.route.proofs.steps.put_step.Statement.{statement}
+use Rattle.route.proofs.steps.put_step.Tie as tie
+
+slice-write-list : tie.Need-slice-write-list
+slice-write-list c = search needs
+
+slice-write-list-2 : tie.Need-slice-write-list-2
+slice-write-list-2 c = simp length-set (omega arith)
+
+slice-write-list-3 : tie.Need-slice-write-list-3
+slice-write-list-3 c = simp length-set (omega arith)
+
+slice-write-list-4 : tie.Need-slice-write-list-4
+slice-write-list-4 c = simp length-set (omega arith)
+
+slice-write-list-5 : tie.Need-slice-write-list-5
+slice-write-list-5 c = simp length-set (omega arith)
+
+slice-write-list-6 : tie.Need-slice-write-list-6
+slice-write-list-6 c = search needs
+
+same-length : tie.Need-same-length
+same-length c = search needs
+
+returns : tie.Need-returns
+returns c =
+    let s = c .args .step in
+    sets-eq (s .column ∷ s .row ∷ s .goal ∷ s .side ∷ s .«first» ∷ s .last ∷ []) (now (c .args .list)) 0 (omega (arith, c .pre))
+
+pub put-step-spec : {M : Type 1} → statement M
+put-step-spec =
+    tie.close
+    (tie.spec
+    slice-write-list
+    slice-write-list-2
+    slice-write-list-3
+    slice-write-list-4
+    slice-write-list-5
+    slice-write-list-6
+    same-length
+    returns)
