@@ -14,9 +14,6 @@ use Rattle.store.specs.Checks.{Checked}
 use Rattle.sector_cost.specs.Costs.{Costs}
 use Rattle.hall.specs.Marks.{Floor}
 
-abbrev pub measuresOf : ℕ → ℕ → ℕ → Measures
-measuresOf columns rows scale = record { columns = columns; rows = rows; scale = scale }
-
 abbrev pub hallOf : Measures → List ℕ → List ℕ → List ℕ → Hall
 hallOf m base costs marks = record { measures = m; base = base; scaled = costs; marks = marks }
 
