@@ -142,5 +142,3 @@ module _ (m : Measures) (st : List ℕ) (n cost : ℕ) (base costs marks : List 
     pub altered-written : {out : List ℕ} → more ≡ false → out ≡ written (hallOf m base costs marks) st → out ≡ alteredInto st n cost
     unfolding alteredInto ifAccepted
     altered-written h o = rw (← altered-0 h) (o ∙ ap (λ h. written h st) is)
-
-pub ruleset altering = (small-changed, altered-22, altered-0, altered-kept, altered-written)

@@ -1,5 +1,5 @@
 -- `change_in` refuses before it writes.
-use Rattle.parts.proofs.Altering.{altering}
+use Rattle.parts.proofs.Altering.{small-changed, altered-22, altered-0, altered-kept, altered-written}
 use borrow.Author.Needs.{needs}
 use Rattle.parts.proofs.changing.change_in.Statement.{statement}
 use Rattle.parts.proofs.changing.change_in.Tie as tie
@@ -8,7 +8,7 @@ change-lists-requires : tie.Need-change-lists-requires
 change-lists-requires c κs = search needs
 
 any-exceeds-requires : tie.Need-any-exceeds-requires
-any-exceeds-requires c κs = search (needs, altering)
+any-exceeds-requires c κs = (search needs, search (needs, small-changed), search needs)
 
 same-length : tie.Need-same-length
 same-length c = search needs
@@ -23,7 +23,7 @@ same-length-4 : tie.Need-same-length-4
 same-length-4 c = search needs
 
 returns : tie.Need-returns
-returns c = search (needs, altering)
+returns c = (search (needs, altered-22), search (needs, altered-kept))
 
 write-hall-requires : tie.Need-write-hall-requires
 write-hall-requires c κs = search needs
@@ -41,7 +41,7 @@ same-length-8 : tie.Need-same-length-8
 same-length-8 c = search needs
 
 returns-2 : tie.Need-returns-2
-returns-2 c = search (needs, altering)
+returns-2 c = (search (needs, altered-0), search (needs, altered-written))
 
 pub change-in-spec : {M : Type 1} → statement M
 change-in-spec =
