@@ -1,25 +1,18 @@
 -- What build asks once it is not refused, what it answers, and what it leaves in the store.
-use mathlib.Core.Path.{_≡_, refl, sym, ap, _∙_}
+use mathlib.Core.Path.{_≡_, sym, _∙_}
 use mathlib.Core.List.{List}
-use Prim.Native.Nat.{ℕ, zero, suc, _*_, _≤_, _<_}
-use native.Mathlib.Omega.{arith}
+use Prim.Native.Nat.{ℕ, _≤_, _<_}
 use lib.ListN.{length}
 use borrow.Author.Tests.{ltb-false}
 use Rattle.laws.specs.Ladder.{passed}
 use Rattle.model.specs.declared.Measures.{Measures}
 use Rattle.model.specs.Sectors.{cells}
-use Rattle.model.specs.Scaling.{scaleFloor}
-use Rattle.model.specs.Windows.{marksOf}
 use Rattle.model.specs.Store.{sizeOf, written}
 use Rattle.model.specs.Calls.{ifAccepted, buildNumber, built, buildInto}
 use Rattle.store.specs.Checks.{sized, few-sectors, scaled-well, not-different}
 use Rattle.sector_cost.specs.Costs.{costs}
-use Rattle.hall.specs.Parts.{hallOf, Buildable}
+use Rattle.parts.specs.Parts.{Buildable}
 use Rattle.hall.proofs.Passed.{none, not-accepted}
-
-pub built-by : (m : Measures) (base st : List ℕ) {costs marks out : List ℕ} → costs ≡ scaleFloor m base → marks ≡ marksOf m costs → out ≡ written (hallOf m base costs marks) st → out ≡ written (built m base) st
-unfolding built
-built-by m base st e f o = o ∙ rw (f, e)
 
 module _ (m : Measures) (base st : List ℕ) {r : ℕ} (is : r ≡ buildNumber m base st) where
   pub build-kept : 0 < r → st ≡ buildInto m base st

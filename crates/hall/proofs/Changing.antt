@@ -1,153 +1,19 @@
--- Facts for the proofs of change: marks afresh, sides that exceed, the hall after a change, and what is answered and left in the store.
-use mathlib.Core.Path.{_≡_, refl, sym, ap, _∙_}
-use mathlib.Core.Bool.{Bool, true, false, _&&_, not}
-use mathlib.Core.List.{List, [], _∷_}
-use Prim.Native.Nat.{ℕ, zero, suc, _+_, _*_, _/_, _%_, _^_, _≤_, _<_}
-use native.Mathlib.Nat.{not-suc-le-zero, le-of-suc-le-suc}
+-- What change asks once it is not refused, what it answers, and what it leaves in the store.
+use mathlib.Core.Path.{_≡_, sym, ap, _∙_}
+use mathlib.Core.List.{List}
+use Prim.Native.Nat.{ℕ, _≤_, _<_}
 use native.Mathlib.Omega.{arith}
-use native.Mathlib.Decide.{decLt}
-use lib.Dec.{ltb, leb}
-use lib.ListN.{length, getD, set, length-set}
-use lib.Seq.{set-getD}
+use lib.Dec.{leb}
 use borrow.Author.Tests.{le-leb, lt-leb}
-use Rattle.laws.specs.Fold.{pick}
 use Rattle.laws.specs.Ladder.{refuse}
-use Rattle.laws.specs.Region.{region}
-use Rattle.laws.specs.Table.{tabulate, length-tabulate, tabulate-at}
 use Rattle.model.specs.declared.Measures.{Measures}
-use Rattle.model.specs.declared.Side.{Side}
-use Rattle.model.specs.declared.Side.the-variants.{North, East, South, West}
-use Rattle.model.specs.Cells.{sideNumber, sideAt, opposite}
-use Rattle.model.specs.Sectors.{sectors, cells, sectorOf, beyond, hasBeyond}
-use Rattle.model.specs.Windows.{bits, openPlace, markOf, windowCount}
-use Rattle.model.specs.WindowRuns.{bits-small}
-use Rattle.model.specs.Halls.{Hall}
-use Rattle.model.specs.Store.{measuresAt, sizeOf, marksIn, hallIn, decode, written}
-use Rattle.model.specs.Change.{isNearby, rescaled, remarked, changed, exceedsAt, exceeds}
-use Rattle.model.specs.Calls.{orElse, ifAccepted, checkNumber, alterNumber, changeNumber, changeInto}
-use Rattle.store.specs.Checks.{Sized, few-sectors, Checked}
-use Rattle.sector_cost.specs.Costs.{Costs}
-use Rattle.hall.specs.Each.{each}
-use Rattle.hall.specs.Marks.{Floor, fresh, nearbyFresh, Small}
-use Rattle.hall.specs.Parts.{hallOf, Changeable, alteredNumber, alteredInto}
+use Rattle.model.specs.Sectors.{cells}
+use Rattle.model.specs.Store.{measuresAt, decode, written}
+use Rattle.model.specs.Change.{changed}
+use Rattle.model.specs.Calls.{orElse, checkNumber, alterNumber, changeNumber, changeInto}
+use Rattle.store.specs.Checks.{Sized, few-sectors}
+use Rattle.parts.specs.Parts.{Changeable, alteredNumber, alteredInto}
 use Rattle.hall.proofs.Passed.{none, not-accepted, refused-first, passed}
-
--- ---- marks afresh
-module _ (m : Measures) (costs : List ℕ) (t k : ℕ) (marks : List ℕ) {near : Bool} (is : near ≡ isNearby m t (k / 4)) where
-  pub side-near : {out : List ℕ} → near ≡ true → out ≡ each (fresh m costs) k marks → out ≡ each (nearbyFresh m costs t) k marks
-  unfolding each
-  side-near h e = e ∙ rw (← is, h)
-
-  pub side-far : near ≡ false → marks ≡ each (nearbyFresh m costs t) k marks
-  unfolding each
-  side-far h = rw (← is, h) (sym (set-getD marks k 0))
-
--- ---- sides that exceed
-pub none-past : (l : List ℕ) (k : ℕ) → length l ≤ k → 0 ≡ getD l k 0
-none-past [] k h = refl
-none-past (x ∷ l) zero h = absurd (not-suc-le-zero h)
-none-past (x ∷ l) (suc k) h = none-past l k (le-of-suc-le-suc h)
-
-pub side-few : (side : Side) {n : ℕ} → n ≡ sideNumber side → n ≤ 3
-side-few North e = omega arith
-side-few East e = omega arith
-side-few South e = omega arith
-side-few West e = omega arith
-
-pub windows-counted : (marks : List ℕ) (s : ℕ) (side : Side) {n mark r : ℕ} → Small marks → n ≡ sideNumber side → mark ≡ getD marks (s * 4 + n) 0 → (mark ≤ 1023 → r ≡ windowCount mark) → r ≡ windowCount (getD marks (s * 4 + sideNumber side) 0)
-windows-counted marks s side {n} k e is count =
-    let at = is ∙ ap (λ j. getD marks (s * 4 + j) 0) e in
-    count (rw at (k .small (s * 4 + sideNumber side))) ∙ ap windowCount at
-
-pub beyond-few : {m : Measures} (s : ℕ) (side : Side) {other : ℕ} → Floor m → s ≤ 10000 → other ≡ beyond m s side → other ≤ 20000
-unfolding beyond
-beyond-few s North f l e = omega arith
-beyond-few s East f l e = omega (arith, f .sides .few-rows)
-beyond-few s South f l e = omega arith
-beyond-few s West f l e = omega arith
-
-module _ (m : Measures) (marks : List ℕ) (t s k : ℕ) {side : Side} (at : side ≡ sideAt k) {edge : Bool} (is : edge ≡ (hasBeyond m s side && isNearby m t s && not (isNearby m t (beyond m s side)))) where
-  pub exceeds-edge : {facing : Side} {other a b : ℕ} → edge ≡ true → other ≡ beyond m s side → facing ≡ opposite side
-      → a ≡ windowCount (getD marks (other * 4 + sideNumber facing) 0) → b ≡ windowCount (getD marks (s * 4 + sideNumber side) 0) → ltb a b ≡ exceedsAt (hallOf m [] [] marks) t s (sideAt k)
-  unfolding exceedsAt
-  exceeds-edge h o f p q = rw (p, q, o, f, ← at, ← is, h)
-
-  pub exceeds-not : edge ≡ false → false ≡ exceedsAt (hallOf m [] [] marks) t s (sideAt k)
-  unfolding exceedsAt
-  exceeds-not h = rw (← at, ← is, h)
-
--- ---- the hall after a change
-module _ {m : Measures} {st : List ℕ} {n : ℕ} (c : Changeable m st n) where
-  pub costs-changed : (xs : List ℕ) → length xs ≡ cells m → Costs m xs
-  costs-changed xs e = record { rows = c .floor .sides .some-rows; few = c .floor .few; scale = c .scale; long = e }
-
-  pub changed-by : (cost : ℕ) {size size' : ℕ} {b s s' k k' : List ℕ} → size ≡ cells m → size' ≡ cells m → length b ≡ size
-      → b ≡ region 4 size st → s ≡ region (4 + length (set b n cost)) size' st → s' ≡ rescaled m (set b n cost) (n / 100) s
-      → k ≡ marksIn m st → k' ≡ remarked m s' (n / 100) k → hallOf m (set b n cost) s' k' ≡ changed (decode st) n cost
-  unfolding changed decode
-  changed-by cost {size} {size'} {b} {s} {s'} {k} {k'} e e' lb eb es es' ek ek' =
-      let long : length (set b n cost) ≡ cells m = length-set b n cost ∙ lb ∙ e in
-      let base : set b n cost ≡ set (region 4 (cells m) st) n cost = rw (eb, e) in
-      let old : s ≡ region (4 + cells m) (cells m) st = es ∙ rw (long, e') in
-      let new : s' ≡ rescaled m (set (region 4 (cells m) st) n cost) (n / 100) (region (4 + cells m) (cells m) st) = es' ∙ rw (base, old) in
-      let marks : k' ≡ remarked m (rescaled m (set (region 4 (cells m) st) n cost) (n / 100) (region (4 + cells m) (cells m) st)) (n / 100) (marksIn m st) = ek' ∙ rw (new, ek) in
-      let done : hallOf m (set b n cost) s' k' ≡ changed (hallIn m st) n cost = λ i. record { measures = m; base = base i; scaled = new i; marks = marks i } in
-      done ∙ ap (λ x. changed (hallIn x st) n cost) (c .read)
-
--- marks of ten bits
-mark-small : (m : Measures) (costs : List ℕ) (s : ℕ) (side : Side) → markOf m costs s side ≤ 1023
-unfolding markOf
-mark-small m costs s side = go (hasBeyond m s side)
-  where
-    go : (b : Bool) → pick b (bits (openPlace m costs s side) 10) 0 ≤ 1023
-    go true = omega (arith, bits-small (openPlace m costs s side) 10)
-    go false = omega arith
-
-remarked-small : (m : Measures) (costs : List ℕ) (t : ℕ) (marks : List ℕ) → ((k : ℕ) → k < sectors m * 4 → getD marks k 0 ≤ 1023) → Small (remarked m costs t marks)
-unfolding remarked
-remarked-small m costs t marks old = record { small = λ k. go k (decLt k (sectors m * 4)) }
-  where
-    rule : ℕ → ℕ
-    rule k = pick (isNearby m t (k / 4)) (markOf m costs (k / 4) (sideAt (k % 4))) (getD marks k 0)
-
-    one : (b : Bool) (x y : ℕ) → x ≤ 1023 → y ≤ 1023 → pick b x y ≤ 1023
-    one true x y p q = p
-    one false x y p q = q
-
-    go : (k : ℕ) → Dec (k < sectors m * 4) → getD (tabulate rule (sectors m * 4) 0) k 0 ≤ 1023
-    go k (yes l) = rw (tabulate-at rule (sectors m * 4) k 0 l) (one (isNearby m t (k / 4)) (markOf m costs (k / 4) (sideAt (k % 4))) (getD marks k 0) (mark-small m costs (k / 4) (sideAt (k % 4))) (old k l))
-    go k (no l) = rw (← none-past (tabulate rule (sectors m * 4) 0) k (rw (length-tabulate rule (sectors m * 4) 0) (omega arith))) (omega arith)
-
--- ---- what is answered, and left in the store
-module _ (m : Measures) (st : List ℕ) (n cost : ℕ) (base costs marks : List ℕ) (is : hallOf m base costs marks ≡ changed (decode st) n cost) where
-  pub small-changed : Changeable m st n → Small marks
-  unfolding changed decode
-  small-changed c =
-      let e : marks ≡ changed (decode st) n cost .marks = ap (λ h. h .marks) is in
-      rw e (remarked-small (measuresAt st) _ (sectorOf n) (marksIn (measuresAt st) st) (c .stored .small-marks))
-
-  module _ {more : Bool} (found : more ≡ exceeds (hallOf m [] [] marks) (sectorOf n)) where
-    number : alteredNumber st n cost ≡ refuse more 22 0
-    unfolding alteredNumber exceeds exceedsAt
-    number = rw (← is, found)
-
-    pub altered-22 : more ≡ true → 22 ≡ alteredNumber st n cost
-    unfolding refuse
-    altered-22 h = sym (number ∙ rw h)
-
-    pub altered-0 : more ≡ false → 0 ≡ alteredNumber st n cost
-    unfolding refuse
-    altered-0 h = sym (number ∙ rw h)
-
-    pub altered-kept : more ≡ true → st ≡ alteredInto st n cost
-    unfolding alteredInto
-    altered-kept h = rw (← altered-22 h) (not-accepted 22 (written (changed (decode st) n cost) st) st (omega arith))
-
-    pub altered-written : {out : List ℕ} → more ≡ false → out ≡ written (hallOf m base costs marks) st → out ≡ alteredInto st n cost
-    unfolding alteredInto ifAccepted
-    altered-written h o = rw (← altered-0 h) (o ∙ ap (λ h. written h st) is)
-
-pub ruleset altering = (small-changed, altered-22, altered-0, altered-kept, altered-written)
 
 module _ (st : List ℕ) (n cost : ℕ) where
   -- whatever its number, a refusal leaves the store

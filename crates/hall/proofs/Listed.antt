@@ -1,22 +1,47 @@
 -- What windows answers and leaves in the list, in the shapes of its returns.
 use mathlib.Core.Path.{_≡_, refl, sym, ap, _∙_}
 use mathlib.Core.List.{List}
-use Prim.Native.Nat.{ℕ, zero, suc, _*_, _/_, _≤_, _<_}
+use Prim.Native.Nat.{ℕ, zero, suc, _+_, _*_, _/_, _≤_, _<_}
 use native.Mathlib.Omega.{arith}
-use lib.Dec.{leb, ltb}
-use lib.ListN.{length, drop}
+use lib.Dec.{ltb}
+use lib.ListN.{length, getD}
 use borrow.Author.Tests.{le-leb, lt-leb, lt-ltb, le-ltb}
 use Rattle.laws.specs.Ladder.{refuse}
+use Rattle.laws.specs.Table.{tabulate-at}
 use Rattle.model.specs.declared.Measures.{Measures}
 use Rattle.model.specs.declared.Listed.the-variants.{Windows, Refused}
+use Rattle.model.specs.Cells.{sideNumber, sideAt}
 use Rattle.model.specs.Sectors.{sectors}
 use Rattle.model.specs.Store.{measuresAt, marksIn, decode}
-use Rattle.model.specs.Calls.{orElse, ifAccepted, checkNumber, windowsOf, flatWindows, windowsNumber, listed, windowsAnswer, windowsFlat}
+use Rattle.model.specs.Calls.{orElse, ifAccepted, checkNumber, windowsOf, windowsNumber, listed, windowsAnswer, windowsFlat}
 use Rattle.store.specs.Checks.{Checked}
-use Rattle.portal.specs.Listing.{windowsBy, FourMarks, over, few-by}
-use Rattle.hall.specs.Marks.{sectorMarks}
-use Rattle.hall.proofs.Passed.{refused-first, none, passed, four-marks, windows-are}
+use Rattle.portal.specs.Listing.{windowsBy, FourMarks, windows-by, over, few-by}
+use Rattle.parts.specs.Marks.{sectorMarks}
+use Rattle.hall.proofs.Passed.{refused-first, none, passed}
 
+-- ---- the marks of a sector
+-- a side by its number
+side-number : (k : ℕ) → k < 4 → sideNumber (sideAt k) ≡ k
+side-number zero h = refl
+side-number (suc zero) h = refl
+side-number (suc (suc zero)) h = refl
+side-number (suc (suc (suc zero))) h = refl
+side-number (suc (suc (suc (suc k)))) h = absurd (omega arith)
+
+module _ {st : List ℕ} {m : Measures} (s : ℕ) {marks : List ℕ} (read : m ≡ measuresAt st) (k : Checked st) (on : s < sectors m) (are : marks ≡ sectorMarks (marksIn m st) s) where
+  side-mark : (i : ℕ) → i < 4 → getD marks i 0 ≡ getD (marksIn (measuresAt st) st) (s * 4 + i) 0
+  unfolding sectorMarks
+  side-mark i h = rw (are, read) (tabulate-at (λ k. getD (marksIn (measuresAt st) st) (s * 4 + k) 0) 4 i 0 h)
+
+  four-marks : FourMarks marks
+  four-marks =
+      record { small = λ i h. let l : s < sectors (measuresAt st) = rw read at on in rw (side-mark i h) (k .small-marks (s * 4 + i) (omega arith)) }
+
+  windows-are : windowsOf (decode st) s ≡ windowsBy marks 4
+  unfolding decode
+  windows-are = windows-by (decode st) s marks (λ i h. side-mark i h ∙ ap (λ j. getD (marksIn (measuresAt st) st) (s * 4 + j) 0) (sym (side-number i h)))
+
+-- ---- what is answered, and left in the list
 module _ (st : List ℕ) (s : ℕ) (list : List ℕ) where
   -- what a number answers
   refused : (n : ℕ) → 0 < n → n ≡ windowsNumber st s (length list / 3) → (Refused n ≡ windowsAnswer st s (length list / 3)) × (list ≡ windowsFlat st s list)

@@ -1,19 +1,8 @@
 // The build call.
 ghost use mathlib.Core.Path.{_≡_};
-ghost use Prim.Native.Nat.{_*_};
-ghost use lib.ListN.{length};
-ghost use Rattle.model.specs.Sectors.{sectors, cells};
-ghost use Rattle.model.specs.Store.{written};
-ghost use Rattle.model.specs.Calls.{buildNumber, built, buildInto};
-ghost use Rattle.hall.specs.Parts.{measuresOf, Buildable};
-use crate::layout::cost_room;
-use crate::layout::mark_room;
-use crate::layout::write_hall;
-use crate::marks::mark_all;
-use fields::sectors::cells;
-use fields::sectors::sectors;
+ghost use Rattle.model.specs.Calls.{measuresOf, buildNumber, buildInto};
 use model::Measures;
-use sector_cost::scale_all_costfields;
+use parts::building::build_hall;
 use store::check::bad_scale;
 use store::check::bad_sectors;
 use store::check::too_short;
@@ -36,28 +25,6 @@ fn build_number(m: Measures, base: &[u8], st: &[u8]) -> u8
         return 18;
     }
     0
-}
-
-// Scales and marks a hall in lent lists, and writes it into a store.
-fn build_in(m: Measures, base: &[u8], scaled: &mut [u8], marks: &mut [u16], st: &mut [u8])
-    requires { ⌜ Buildable m (now base) (now st) × (length (now scaled) ≡ cells m) × (length (now marks) ≡ sectors m * 4) ⌝ }
-    ensures { λ _. ⌜ now (st .exit) ≡ written (built m (now (base .entry))) (now (st .entry)) ⌝ }
-{
-    scale_all_costfields(m, base, scaled);
-    mark_all(m, scaled, marks);
-    write_hall(m, base, scaled, marks, st);
-}
-
-// The same in lists of its own.
-fn build_hall(m: Measures, base: &[u8], st: &mut [u8])
-    requires { ⌜ Buildable m (now base) (now st) ⌝ }
-    ensures { λ _. ⌜ now (st .exit) ≡ written (built m (now (base .entry))) (now (st .entry)) ⌝ }
-{
-    let mut scaled = cost_room();
-    let mut marks = mark_room();
-    let size = cells(m);
-    let sides = sectors(m) * 4;
-    build_in(m, base, &mut scaled[..size], &mut marks[..sides], st);
 }
 
 // Builds a hall in a store. A refusal leaves the store as it was; bytes past the hall's size stay.

@@ -2,7 +2,5 @@
 pub mod build;
 pub mod change;
 pub mod file;
-mod layout;
-mod marks;
 pub mod plan;
 pub mod windows;

@@ -2,8 +2,7 @@
 ghost use mathlib.Core.Path.{_≡_};
 ghost use Prim.Native.Nat.{_/_};
 ghost use lib.ListN.{length};
-ghost use Rattle.model.specs.Calls.{planAnswer, readAnswer, readInto, buildNumber, buildInto, checkNumber, changeNumber, changeInto, windowsAnswer, windowsFlat};
-ghost use Rattle.hall.specs.Parts.{measuresOf};
+ghost use Rattle.model.specs.Calls.{planAnswer, readAnswer, readInto, measuresOf, buildNumber, buildInto, checkNumber, changeNumber, changeInto, windowsAnswer, windowsFlat};
 ghost use Rattle.hall_c.specs.Answers.{dimensions, flatMeasures, flatWindows};
 use hall::build::build;
 use hall::change::change;

@@ -115,6 +115,10 @@ unfoldable pub readInto : List ℕ → List ℕ → List ℕ
 readInto file list = ifAccepted (readNumber file (length list)) (baseIn file (length list)) list
 
 -- ---- build
+-- "what build was given: columns, rows, scale", as one record
+abbrev pub measuresOf : ℕ → ℕ → ℕ → Measures
+measuresOf columns rows scale = record { columns = columns; rows = rows; scale = scale }
+
 -- 11, 12, 17 "base list length not 100 × sectors", 18 "store too short"
 unfoldable pub buildNumber : Measures → List ℕ → List ℕ → ℕ
 buildNumber m base st =

@@ -1,0 +1,3 @@
+pub mod Laying
+pub mod Marking
+pub mod Altering

@@ -1,0 +1,178 @@
+// What change does to a store that passed the check, at a cell of its floor.
+ghost use mathlib.Core.Path.{_≡_};
+ghost use mathlib.Core.Bool.{_&&_, not};
+ghost use mathlib.Core.List.{[]};
+ghost use Prim.Native.Nat.{_+_, _*_, _/_, _%_, _≤_, _<_};
+ghost use lib.ListN.{length, getD};
+ghost use Rattle.model.specs.Cells.{sideAt, sideNumber};
+ghost use Rattle.model.specs.Sectors.{sectors, cells, beyond, hasBeyond};
+ghost use Rattle.model.specs.Windows.{windowCount};
+ghost use Rattle.model.specs.Store.{decode};
+ghost use Rattle.model.specs.Change.{isNearby, remarked, changed, exceedsAt, exceeds};
+ghost use Rattle.parts.specs.Each.{each};
+ghost use Rattle.parts.specs.Marks.{Floor, nearbyFresh, Small};
+ghost use Rattle.parts.specs.Parts.{hallOf, Changeable, alteredNumber, alteredInto};
+use crate::layout::cost_room;
+use crate::layout::mark_room;
+use crate::layout::take_part;
+use crate::layout::write_hall;
+use crate::marks::mark_side;
+use crate::marks::take_marks;
+use fields::cells::opposite;
+use fields::cells::side_at;
+use fields::cells::side_number;
+use fields::sectors::beyond;
+use fields::sectors::cells;
+use fields::sectors::has_beyond;
+use fields::sectors::sectors;
+use model::Measures;
+use model::Side;
+use portal::runs::window_count;
+use sector_cost::nearby::is_nearby;
+use sector_cost::rescale;
+
+// Marks side k afresh where its sector is one of those around sector t.
+fn remark_side(m: Measures, costs: &[u8], t: usize, k: usize, marks: &mut [u16])
+    requires { ⌜ Floor m × (t < sectors m) × (k < sectors m * 4) × (length (now marks) ≡ sectors m * 4) ⌝ }
+    ensures { λ _. ⌜ now (marks .exit) ≡ each (nearbyFresh m (now (costs .entry)) t) k (now (marks .entry)) ⌝ }
+{
+    if is_nearby(m, t, k / 4) {
+        mark_side(m, costs, k, marks);
+    }
+}
+
+// Marks the sectors around sector t afresh. Other sectors keep their marks.
+fn remark(m: Measures, costs: &[u8], t: usize, marks: &mut [u16])
+    requires { ⌜ Floor m × (t < sectors m) × (length (now marks) ≡ sectors m * 4) ⌝ }
+    ensures { λ _. ⌜ now (marks .exit) ≡ remarked m (now (costs .entry)) t (now (marks .entry)) ⌝ }
+{
+    let n = marks.len();
+    let mut k = 0;
+    while k < n {
+        remark_side(m, costs, t, k, marks);
+        k += 1;
+    }
+}
+
+// Mark k; a number past the list has none, which is 0.
+fn mark_or_none(marks: &[u16], k: usize) -> u16
+    ensures { λ r. ⌜ r ≡ getD (now (marks .entry)) k 0 ⌝ }
+{
+    if k < marks.len() {
+        return marks[k];
+    }
+    0
+}
+
+// How many windows a side of sector s has.
+fn windows_on(marks: &[u16], s: usize, side: Side) -> usize
+    requires { ⌜ Small (now marks) × (s ≤ 20000) ⌝ }
+    ensures { λ r. ⌜ r ≡ windowCount (getD (now (marks .entry)) (s * 4 + sideNumber side) 0) ⌝ }
+{
+    window_count(mark_or_none(marks, s * 4 + side_number(side)))
+}
+
+// Whether a side lies between a sector marked afresh and one that is not.
+fn is_edge(m: Measures, t: usize, s: usize, side: Side) -> bool
+    requires { ⌜ Floor m × (t < sectors m) × (s < sectors m) ⌝ }
+    ensures { λ r. ⌜ r ≡ hasBeyond m s side && isNearby m t s && not (isNearby m t (beyond m s side)) ⌝ }
+{
+    if has_beyond(m, s, side) {
+        if is_nearby(m, t, s) {
+            return !is_nearby(m, t, beyond(m, s, side));
+        }
+    }
+    false
+}
+
+// Whether it has more windows on side k than the facing side of that other sector.
+fn exceeds_at(m: Measures, marks: &[u16], t: usize, k: usize) -> bool
+    requires { ⌜ Floor m × Small (now marks) × (t < sectors m) × (k < sectors m * 4) ⌝ }
+    ensures { λ r. ⌜ r ≡ exceedsAt (hallOf m [] [] (now (marks .entry))) t (k / 4) (sideAt (k % 4)) ⌝ }
+{
+    let s = k / 4;
+    let side = side_at(k % 4);
+    if is_edge(m, t, s, side) {
+        return windows_on(marks, beyond(m, s, side), opposite(side)) < windows_on(marks, s, side);
+    }
+    false
+}
+
+// Whether any side has.
+fn any_exceeds(m: Measures, marks: &[u16], t: usize) -> bool
+    requires { ⌜ Floor m × Small (now marks) × (t < sectors m) ⌝ }
+    ensures { λ r. ⌜ r ≡ exceeds (hallOf m [] [] (now (marks .entry))) t ⌝ }
+{
+    let n = sectors(m) * 4;
+    let mut k = 0;
+    while k < n {
+        if exceeds_at(m, marks, t, k) {
+            return true;
+        }
+        k += 1;
+    }
+    false
+}
+
+// The hall of a store after a change, in lent lists.
+fn change_lists(
+    st: &[u8],
+    m: Measures,
+    n: usize,
+    cost: u8,
+    base: &mut [u8],
+    scaled: &mut [u8],
+    marks: &mut [u16],
+)
+    requires { ⌜ Changeable m (now st) n × (length (now base) ≡ cells m) × (length (now scaled) ≡ cells m) × (length (now marks) ≡ sectors m * 4) ⌝ }
+    ensures { λ _. ⌜ hallOf m (now (base .exit)) (now (scaled .exit)) (now (marks .exit)) ≡ changed (decode (now (st .entry))) n cost ⌝ }
+{
+    take_part(st, 4, base);
+    base[n] = cost;
+    take_part(st, 4 + base.len(), scaled);
+    rescale(m, base, n / 100, scaled);
+    take_marks(st, m, marks);
+    remark(m, scaled, n / 100, marks);
+}
+
+// Changes a hall in lent lists, and writes it into the store unless that is refused.
+fn change_in(
+    m: Measures,
+    n: usize,
+    cost: u8,
+    base: &mut [u8],
+    scaled: &mut [u8],
+    marks: &mut [u16],
+    st: &mut [u8],
+) -> u8
+    requires { ⌜ Changeable m (now st) n × (length (now base) ≡ cells m) × (length (now scaled) ≡ cells m) × (length (now marks) ≡ sectors m * 4) ⌝ }
+    ensures { λ r. ⌜ (r ≡ alteredNumber (now (st .entry)) n cost) × (now (st .exit) ≡ alteredInto (now (st .entry)) n cost) ⌝ }
+{
+    change_lists(st, m, n, cost, base, scaled, marks);
+    if any_exceeds(m, marks, n / 100) {
+        return 22;
+    }
+    write_hall(m, base, scaled, marks, st);
+    0
+}
+
+// The same in lists of its own.
+pub fn change_hall(m: Measures, n: usize, cost: u8, st: &mut [u8]) -> u8
+    requires { ⌜ Changeable m (now st) n ⌝ }
+    ensures { λ r. ⌜ (r ≡ alteredNumber (now (st .entry)) n cost) × (now (st .exit) ≡ alteredInto (now (st .entry)) n cost) ⌝ }
+{
+    let mut base = cost_room();
+    let mut scaled = cost_room();
+    let mut marks = mark_room();
+    let size = cells(m);
+    let sides = sectors(m) * 4;
+    change_in(
+        m,
+        n,
+        cost,
+        &mut base[..size],
+        &mut scaled[..size],
+        &mut marks[..sides],
+        st,
+    )
+}

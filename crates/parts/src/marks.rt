@@ -1,0 +1,78 @@
+// Lists of marks: those of a store, and those that the costs give.
+ghost use mathlib.Core.Path.{_≡_};
+ghost use Prim.Native.Nat.{_*_, _≤_, _<_};
+ghost use lib.ListN.{length, getD};
+ghost use Rattle.model.specs.Sectors.{sectors};
+ghost use Rattle.model.specs.Windows.{marksOf};
+ghost use Rattle.model.specs.Store.{sizeOf, marksIn};
+ghost use Rattle.store.specs.Checks.{Sized};
+ghost use Rattle.parts.specs.Each.{each};
+ghost use Rattle.parts.specs.Marks.{Floor, sectorMarks, kept, fresh};
+use fields::cells::side_at;
+use fields::sectors::cells;
+use model::Measures;
+use portal::marks::side_mark;
+use store::bytes::u16_at;
+
+// Mark k of a store.
+pub fn mark_in(st: &[u8], m: Measures, k: usize) -> u16
+    requires { ⌜ Sized m × (sizeOf m ≤ length (now st)) × (k < sectors m * 4) ⌝ }
+    ensures { λ r. ⌜ r ≡ getD (marksIn m (now (st .entry))) k 0 ⌝ }
+{
+    u16_at(st, 4 + 2 * cells(m) + 2 * k) as u16
+}
+
+// The marks of the four sides of sector s.
+pub fn sector_marks(st: &[u8], m: Measures, s: usize) -> [u16; 4]
+    requires { ⌜ Sized m × (sizeOf m ≤ length (now st)) × (s < sectors m) ⌝ }
+    ensures { λ r. ⌜ r ≡ sectorMarks (marksIn m (now (st .entry))) s ⌝ }
+{
+    [
+        mark_in(st, m, s * 4),
+        mark_in(st, m, s * 4 + 1),
+        mark_in(st, m, s * 4 + 2),
+        mark_in(st, m, s * 4 + 3),
+    ]
+}
+
+// Takes mark k over from a store.
+fn take_mark(st: &[u8], m: Measures, k: usize, marks: &mut [u16])
+    requires { ⌜ Sized m × (sizeOf m ≤ length (now st)) × (k < sectors m * 4) × (length (now marks) ≡ sectors m * 4) ⌝ }
+    ensures { λ _. ⌜ now (marks .exit) ≡ each (kept m (now (st .entry))) k (now (marks .entry)) ⌝ }
+{
+    marks[k] = mark_in(st, m, k);
+}
+
+// Takes all marks over from a store.
+pub fn take_marks(st: &[u8], m: Measures, marks: &mut [u16])
+    requires { ⌜ Sized m × (sizeOf m ≤ length (now st)) × (length (now marks) ≡ sectors m * 4) ⌝ }
+    ensures { λ _. ⌜ now (marks .exit) ≡ marksIn m (now (st .entry)) ⌝ }
+{
+    let n = marks.len();
+    let mut k = 0;
+    while k < n {
+        take_mark(st, m, k, marks);
+        k += 1;
+    }
+}
+
+// Marks side k afresh, from the costs.
+pub fn mark_side(m: Measures, costs: &[u8], k: usize, marks: &mut [u16])
+    requires { ⌜ Floor m × (k < sectors m * 4) × (length (now marks) ≡ sectors m * 4) ⌝ }
+    ensures { λ _. ⌜ now (marks .exit) ≡ each (fresh m (now (costs .entry))) k (now (marks .entry)) ⌝ }
+{
+    marks[k] = side_mark(m, costs, k / 4, side_at(k % 4));
+}
+
+// Marks all sides afresh.
+pub fn mark_all(m: Measures, costs: &[u8], marks: &mut [u16])
+    requires { ⌜ Floor m × (length (now marks) ≡ sectors m * 4) ⌝ }
+    ensures { λ _. ⌜ now (marks .exit) ≡ marksOf m (now (costs .entry)) ⌝ }
+{
+    let n = marks.len();
+    let mut k = 0;
+    while k < n {
+        mark_side(m, costs, k, marks);
+        k += 1;
+    }
+}
