@@ -1,87 +1,150 @@
-// The least keys of paths to one portal: a search that serves waiting portals in the order of their numbers.
+// The least keys of paths to one portal: a search that serves waiting portals in the order in which they came to wait.
+// The order bears on its speed alone, so the queue may lose a number: one that waits is found again.
 ghost use mathlib.Core.Path.{_≡_};
-ghost use mathlib.Core.Logic.{_⊎_};
-ghost use mathlib.Core.Bool.{true, false};
 ghost use Prim.Native.Nat.{ℕ, _*_, _/_, _≤_, _<_};
-ghost use lib.ListN.{length, getD, set, replicate};
+ghost use lib.ListN.{length, set, replicate};
 ghost use Rattle.laws.specs.Graph.{Sound, BothWays};
 ghost use Rattle.laws.specs.LeastCosts.{relaxed};
 ghost use Rattle.laws.specs.Waiting.{Waiting, awaited, work};
 ghost use Rattle.model.specs.Sectors.{sectors};
 ghost use Rattle.model.specs.LeastPath.{keysTo};
 ghost use Rattle.route.specs.EdgeTable.{tableGraph};
-ghost use Rattle.route.specs.Searching.{Searched};
+ghost use Rattle.route.specs.Searching.{Searched, Lined, Turned};
 use crate::portals::head_of;
-use fields::sectors::sectors;
 use model::Measures;
 
-// Arc a of portal u: its head takes the offer, if that is less, and then waits.
-fn offer(m: Measures, table: &[u32], u: usize, a: usize, keys: &mut [u32], wait: &mut [u8])
-    requires { ⌜ Searched m (now table) (length (now keys)) (length (now wait)) × (a < sectors m * 400) × (u ≡ a / 20) ⌝ }
-    ensures costs { λ _. ⌜ now (keys .exit) ≡ relaxed (tableGraph m (now (table .entry))) (now (keys .entry)) a ⌝ }
-    ensures waits { λ _. ⌜ now (wait .exit) ≡ awaited (tableGraph m (now (table .entry))) (now (keys .entry)) (now (wait .entry)) a ⌝ }
+// Number v comes to the end of the queue, if there is room. Says where the queue then ends.
+fn push(queue: &mut [u16], end: usize, v: usize) -> usize
+    requires { ⌜ (end ≤ length (now queue)) × (v < 65536) ⌝ }
+    ensures { λ r. ⌜ r ≤ length (now (queue .entry)) ⌝ }
+{
+    if queue.len() <= end {
+        return end;
+    }
+    queue[end] = v as u16;
+    end + 1
+}
+
+// Arc a of portal u: its head takes the offer, if that is less, and then waits. Says where the queue then ends.
+fn offer(
+    m: Measures,
+    table: &[u32],
+    u: usize,
+    a: usize,
+    keys: &mut [u32],
+    wait: &mut [u8],
+    queue: &mut [u16],
+    end: usize,
+) -> usize
+    requires { ⌜ Searched m (now table) (length (now keys)) (length (now wait)) × (a < sectors m * 400) × (u ≡ a / 20) × (end ≤ length (now queue)) ⌝ }
+    ensures room { λ r. ⌜ r ≤ length (now (queue .entry)) ⌝ }
+    ensures taken { λ _. ⌜ (now (keys .exit) ≡ relaxed (tableGraph m (now (table .entry))) (now (keys .entry)) a) × (now (wait .exit) ≡ awaited (tableGraph m (now (table .entry))) (now (keys .entry)) (now (wait .entry)) a) ⌝ }
 {
     let w = table[a];
     if w == 0 {
-        return;
+        return end;
     }
     let v = head_of(m, u, a % 20);
     let old = keys[v];
     if old <= w {
-        return;
+        return end;
     }
     let key = keys[u];
     if old - w <= key {
-        return;
+        return end;
     }
+    let waited = wait[v];
     keys[v] = key + w;
     wait[v] = 1;
+    if waited != 0 {
+        return end;
+    }
+    push(queue, end, v)
 }
 
-// The turn of portal u: its 20 arcs.
-fn serve(m: Measures, table: &[u32], u: usize, keys: &mut [u32], wait: &mut [u8])
-    requires { ⌜ Searched m (now table) (length (now keys)) (length (now wait)) × (u < sectors m * 20) × (0 < getD (now wait) u 0) ⌝ }
+// The turn of number u, if it waits: its 20 arcs. Says where the queue then ends.
+fn serve(
+    m: Measures,
+    table: &[u32],
+    u: usize,
+    keys: &mut [u32],
+    wait: &mut [u8],
+    queue: &mut [u16],
+    end: usize,
+) -> usize
+    requires { ⌜ Searched m (now table) (length (now keys)) (length (now wait)) × (end ≤ length (now queue)) ⌝ }
+    ensures room { λ r. ⌜ r ≤ length (now (queue .entry)) ⌝ }
+    ensures kept { λ _. ⌜ ((s top : ℕ) → Waiting (tableGraph m (now (table .entry))) s top (now (keys .entry)) (now (wait .entry)) → Waiting (tableGraph m (now (table .entry))) s top (now (keys .exit)) (now (wait .exit))) ⌝ }
+    ensures turn { λ _. ⌜ Turned (length (now (keys .entry))) u (now (keys .entry)) (now (wait .entry)) (now (keys .exit)) (now (wait .exit)) ⌝ }
+{
+    if keys.len() <= u {
+        return end;
+    }
+    if wait[u] == 0 {
+        return end;
+    }
+    wait[u] = 0;
+    let mut t = end;
+    let mut a = u * 20;
+    let last = a + 20;
+    while a < last {
+        t = offer(m, table, u, a, keys, wait, queue, t);
+        a += 1;
+    }
+    t
+}
+
+// The numbers of the queue have their turns in its order, and so have those that come to it meanwhile.
+fn drain(
+    m: Measures,
+    table: &[u32],
+    keys: &mut [u32],
+    wait: &mut [u8],
+    queue: &mut [u16],
+    end: usize,
+)
+    requires { ⌜ Searched m (now table) (length (now keys)) (length (now wait)) × (end ≤ length (now queue)) × (0 < end) × Lined (length (now keys)) (now wait) (now queue) end ⌝ }
     ensures kept { λ _. ⌜ ((s top : ℕ) → Waiting (tableGraph m (now (table .entry))) s top (now (keys .entry)) (now (wait .entry)) → Waiting (tableGraph m (now (table .entry))) s top (now (keys .exit)) (now (wait .exit))) ⌝ }
     ensures less { λ _. ⌜ work (now (keys .exit)) (now (wait .exit)) < work (now (keys .entry)) (now (wait .entry)) ⌝ }
 {
-    wait[u] = 0;
-    let mut a = u * 20;
-    let end = a + 20;
-    while a < end {
-        offer(m, table, u, a, keys, wait);
-        a += 1;
+    let mut t = end;
+    let mut h = 0;
+    while h < t {
+        let u = queue[h] as usize;
+        t = serve(m, table, u, keys, wait, queue, t);
+        h += 1;
     }
 }
 
-// One pass over the portals: each that waits has its turn. Says whether one did.
-fn pass(m: Measures, table: &[u32], keys: &mut [u32], wait: &mut [u8]) -> bool
-    requires { ⌜ Searched m (now table) (length (now keys)) (length (now wait)) ⌝ }
-    ensures kept { λ r. ⌜ ((s top : ℕ) → Waiting (tableGraph m (now (table .entry))) s top (now (keys .entry)) (now (wait .entry)) → Waiting (tableGraph m (now (table .entry))) s top (now (keys .exit)) (now (wait .exit))) ⌝ }
-    ensures turns { λ r. ⌜ ((r ≡ false) × ((v : ℕ) → v < sectors m * 20 → getD (now (wait .exit)) v 0 ≡ 0)) ⊎ ((r ≡ true) × (work (now (keys .exit)) (now (wait .exit)) < work (now (keys .entry)) (now (wait .entry)))) ⌝ }
+// The numbers below n that wait make up the queue. Says where it ends.
+fn collect(n: usize, wait: &[u8], queue: &mut [u16]) -> usize
+    requires { ⌜ (n ≤ 2000) × (n ≤ length (now wait)) × (n ≤ length (now queue)) ⌝ }
+    ensures { λ r. ⌜ Lined n (now (wait .entry)) (now (queue .exit)) r ⌝ }
 {
-    let n = sectors(m) * 20;
-    let mut any = false;
+    let mut t = 0;
     let mut u = 0;
     while u < n {
         if wait[u] != 0 {
-            serve(m, table, u, keys, wait);
-            any = true;
+            queue[t] = u as u16;
+            t += 1;
         }
         u += 1;
     }
-    any
+    t
 }
 
-// Only the end portal waits, with key 0.
-fn begin(e: usize, keys: &mut [u32], wait: &mut [u8])
-    requires { ⌜ (e < length (now keys)) × (e < length (now wait)) ⌝ }
+// Only the end portal waits, with key 0, first in the queue.
+fn begin(e: usize, keys: &mut [u32], wait: &mut [u8], queue: &mut [u16])
+    requires { ⌜ (e < 65536) × (e < length (now keys)) × (e < length (now wait)) × (0 < length (now queue)) ⌝ }
     ensures costs { λ _. ⌜ now (keys .exit) ≡ set (replicate (length (now (keys .entry))) 4294967295) e 0 ⌝ }
     ensures waits { λ _. ⌜ now (wait .exit) ≡ set (replicate (length (now (wait .entry))) 0) e 1 ⌝ }
+    ensures queues { λ _. ⌜ now (queue .exit) ≡ set (now (queue .entry)) 0 e ⌝ }
 {
     fill_keys(keys);
     fill_wait(wait);
     keys[e] = 0;
     wait[e] = 1;
+    queue[0] = e as u16;
 }
 
 fn fill_keys(keys: &mut [u32])
@@ -104,15 +167,25 @@ fn fill_wait(wait: &mut [u8])
     }
 }
 
-// The least keys, with a list of those that wait.
-fn search(m: Measures, table: &[u32], e: usize, keys: &mut [u32], wait: &mut [u8])
-    requires { ⌜ Searched m (now table) (length (now keys)) (length (now wait)) × (e < sectors m * 20) ⌝ }
+// The least keys, with a list of those that wait and a queue of them.
+fn search(
+    m: Measures,
+    table: &[u32],
+    e: usize,
+    keys: &mut [u32],
+    wait: &mut [u8],
+    queue: &mut [u16],
+)
+    requires { ⌜ Searched m (now table) (length (now keys)) (length (now wait)) × (e < sectors m * 20) × (2000 ≤ length (now queue)) ⌝ }
     requires { ⌜ BothWays (tableGraph m (now table)) ⌝ }
     ensures { λ _. ⌜ now (keys .exit) ≡ keysTo (tableGraph m (now (table .entry))) e ⌝ }
 {
-    begin(e, keys, wait);
+    begin(e, keys, wait, queue);
+    let mut end = 1;
     loop {
-        if !pass(m, table, keys, wait) {
+        drain(m, table, keys, wait, queue, end);
+        end = collect(keys.len(), wait, queue);
+        if end == 0 {
             break;
         }
     }
@@ -125,5 +198,6 @@ pub fn keys_to(m: Measures, table: &[u32], e: usize, keys: &mut [u32])
     ensures { λ _. ⌜ now (keys .exit) ≡ keysTo (tableGraph m (now (table .entry))) e ⌝ }
 {
     let mut wait: [u8; 2000] = [0; 2000];
-    search(m, table, e, keys, &mut wait);
+    let mut queue: [u16; 4096] = [0; 4096];
+    search(m, table, e, keys, &mut wait, &mut queue);
 }
