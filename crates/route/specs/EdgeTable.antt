@@ -1,13 +1,12 @@
 -- The weights of the portal graph as one list by arc number, and the graph that such a list stands for.
 use Prim.Native.Nat.{ℕ, _+_, _*_, _/_, _%_, _≤_, _<_}
-use native.Mathlib.Decide.{ℕ-discrete}
+use native.Mathlib.Nat.{add-zero}
 use native.Mathlib.Omega.{arith}
-use mathlib.Core.Path.{_≡_, sym, ap, subst, _∙_}
+use mathlib.Core.Path.{_≡_, refl, sym, ap, subst, _∙_}
 use mathlib.Core.Logic.{_⊎_, inl, inr}
 use mathlib.Core.List.{List, []}
 use lib.ListN.{length, getD, set, length-set, List·getD-eq-default}
-use lib.Seq.{ext-getD, getD-set-same, getD-set-other}
-use Rattle.laws.specs.Table.{tabulate, length-tabulate, tabulate-at}
+use Rattle.laws.specs.Table.{tabulate, length-tabulate, tabulate-at, Tabled, tabled-more, tabled-all}
 use Rattle.laws.specs.Graph.{Graph, Sound, BothWays, below-or}
 use Rattle.model.specs.declared.Measures.{Measures}
 use Rattle.model.specs.declared.Side.{Side}
@@ -66,22 +65,36 @@ table-graph h = λ i. record {
 
 -- ---- filling it
 -- the first n weights stand in the list
-pub record Filled (h : Hall) (n : ℕ) (t : List ℕ) : Type 0 where
-  pub long : length t ≡ sectors (h .measures) * 400
-  pub at : (e : ℕ) → e < n → getD t e 0 ≡ portalGraph h .weight e
+abbrev pub Filled : Hall → ℕ → List ℕ → Type 0
+Filled h n t = Tabled (λ e. portalGraph h .weight e) (sectors (h .measures) * 400) n t
 
-pub filled-none : (h : Hall) (t : List ℕ) → length t ≡ sectors (h .measures) * 400 → Filled h 0 t
-filled-none h t l = record { long = l; at = λ e k. absurd (omega arith) }
+pub filled-at : {f : ℕ → ℕ} {n a b : ℕ} {t : List ℕ} → Tabled f n a t → a ≡ b → Tabled f n b t
+filled-at {f} {n} {t = t} r e = subst (λ (i : ℕ). Tabled f n i t) e r
 
-pub filled-more : {h : Hall} {n w : ℕ} {t : List ℕ} → Filled h n t → n < sectors (h .measures) * 400 → w ≡ portalGraph h .weight n → Filled h (n + 1) (set t n w)
-filled-more {h} {n} {w} {t} f l q = record { long = length-set t n w ∙ f .long; at = λ e k. go e k (ℕ-discrete e n) }
-  where
-    go : (e : ℕ) → e < n + 1 → Dec (e ≡ n) → getD (set t n w) e 0 ≡ portalGraph h .weight e
-    go e k (yes z) = rw (z, getD-set-same t n w 0 (omega (arith, f .long))) q
-    go e k (no z) = getD-set-other t n e w 0 z ∙ f .at e (omega arith)
+pub filled-all : (h : Hall) {n : ℕ} {t : List ℕ} → Filled h n t → sectors (h .measures) * 400 ≤ n → t ≡ edgeTable h
+unfolding edgeTable
+filled-all h f l = tabled-all f l
 
-pub filled-all : {h : Hall} {n : ℕ} {t : List ℕ} → Filled h n t → sectors (h .measures) * 400 ≤ n → t ≡ edgeTable h
-filled-all {h} {n} {t} f l = ext-getD 0 t (edgeTable h) (f .long ∙ sym (length-table h)) (λ e k. f .at e (omega (arith, f .long)) ∙ sym (table-weight h e))
+-- the first c places of number p hold what g says: if the list was as a rule has it up to them, and g is that rule there, then it is as the rule has it up to their end
+pub record Row (g : ℕ → ℕ) (p c : ℕ) (t₀ t : List ℕ) : Type 0 where
+  pub within : c ≤ 20
+  pub long : length t ≡ length t₀
+  pub grown : (f : ℕ → ℕ) (n : ℕ) → Tabled f n (p * 20) t₀ → ((k : ℕ) → k < 20 → g k ≡ f (p * 20 + k)) → Tabled f n (p * 20 + c) t
+
+pub row-none : (g : ℕ → ℕ) (p : ℕ) (t : List ℕ) → Row g p 0 t t
+row-none g p t = record { within = omega arith; long = refl; grown = λ f n r _. rw (add-zero (p * 20)) r }
+
+pub row-more : {g : ℕ → ℕ} {p c w : ℕ} {t₀ t : List ℕ} → Row g p c t₀ t → c < 20 → p * 20 + 20 ≤ length t₀ → w ≡ g c → Row g p (c + 1) t₀ (set t (p * 20 + c) w)
+row-more {g} {p} {c} {w} {t₀} {t} row l k e =
+    let sum : p * 20 + (c + 1) ≡ p * 20 + c + 1 = omega arith in
+    record {
+      within = omega arith;
+      long = length-set t (p * 20 + c) w ∙ row .long;
+      grown = λ f n r same. rw sum (tabled-more (row .grown f n r same) (omega (arith, r .long)) (e ∙ same c l));
+    }
+
+pub row-all : {g : ℕ → ℕ} {p c : ℕ} {t₀ t : List ℕ} → Row g p c t₀ t → 20 ≤ c → Row g p 20 t₀ t
+row-all {g} {p} {c} {t₀} {t} row l = subst (λ (k : ℕ). Row g p k t₀ t) (omega (arith, row .within)) row
 
 -- ---- a store that passes the check
 -- what every function below is given: a store that passes, and its measures

@@ -1,43 +1,39 @@
--- `edge_at` tells a portal's own place from the others.
+-- `edge_at` answers by the place, and by the moves to its midpoint.
 use native.Mathlib.Omega.{arith}
-use denote.Ref.{now}
-use borrow.Author.Tests.{not-true, not-false}
 use borrow.Author.Needs.{needs}
-use Rattle.model.specs.Store.{decode}
-use Rattle.route.specs.Reading.{few-of}
-use Rattle.route.specs.Weights.{edge-none, edge-own, edge-other}
+use Rattle.route.specs.Weights.{edge-own, edge-far, edge-near}
 use Rattle.route.proofs.edges.edge_at.Statement.{statement}
 use Rattle.route.proofs.edges.edge_at.Tie as tie
 
 returns : tie.Need-returns
-returns c = edge-none (decode (now (c .before .before .before .args .st))) (c .before .before .before .args .p) (c .before .before .before .args .c) (now (c .before .before .before .args .from)) {b = c .before .before .before .args .portal} (not-true _ (c .if1 .taken))
+returns c = edge-own _ _ _ _ _ (c .if1 .taken)
 
-outer-edge-requires : tie.Need-outer-edge-requires
-outer-edge-requires c κs = search needs
+near-by-requires : tie.Need-near-by-requires
+near-by-requires c κs = search needs
 
 returns-2 : tie.Need-returns-2
-returns-2 c = edge-own (decode (now (c .before .before .before .before .before .args .st))) (c .before .before .before .before .before .args .p) (c .before .before .before .before .before .args .c) (now (c .before .before .before .before .before .args .from)) {b = c .before .before .before .before .before .args .portal} (not-false _ (c .before .before .if1 .left)) (c .before .if2 .taken) (c .outer-edge .ensures)
+returns-2 c = edge-far _ _ _ _ _ (c .before .before .if1 .left) (c .before .near-by .ensures) (c .if2 .taken)
 
-mul-inner-edge : tie.Need-mul-inner-edge
-mul-inner-edge c = search needs
+cast-result : tie.Need-cast-result
+cast-result c = search needs
 
-add-inner-edge : tie.Need-add-inner-edge
-add-inner-edge c = omega (arith, few-of (c .before .before .before .before .pre .0) .few, c .before .before .before .before .pre)
+mul-result : tie.Need-mul-result
+mul-result c = search needs
 
-inner-edge-requires : tie.Need-inner-edge-requires
-inner-edge-requires c κs = search needs
+add-result : tie.Need-add-result
+add-result c = search needs
 
 returns-3 : tie.Need-returns-3
-returns-3 c = edge-other (decode (now (c .before .before .before .before .before .args .st))) (c .before .before .before .before .before .args .p) (c .before .before .before .before .before .args .c) (now (c .before .before .before .before .before .args .from)) {b = c .before .before .before .before .before .args .portal} (not-false _ (c .before .before .if1 .left)) (c .before .if2 .left) (c .inner-edge .ensures)
+returns-3 c = edge-near _ _ _ _ _ (c .before .before .if1 .left) (c .before .near-by .ensures) (omega arith)
 
 pub edge-at-spec : {M : Type 1} → statement M
 edge-at-spec =
     tie.close
     (tie.spec
     returns
-    outer-edge-requires
+    near-by-requires
     returns-2
-    mul-inner-edge
-    add-inner-edge
-    inner-edge-requires
+    cast-result
+    mul-result
+    add-result
     returns-3)
