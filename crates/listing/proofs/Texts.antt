@@ -1,12 +1,17 @@
 -- Facts for the proofs of the texts: a text byte by byte, the texts of single letters, and steps one after the other.
 use mathlib.Core.Path.{_≡_, refl, sym, ap, _∙_}
-use mathlib.Core.List.{List, [], _∷_, _++_}
-use Prim.Native.Nat.{ℕ, suc, _+_, _≤_, _<_}
+use mathlib.Core.List.{List, [], _∷_, _++_, append-assoc, append-nil}
+use Prim.Native.Nat.{ℕ, zero, suc, _+_, _*_, _≤_, _<_}
 use native.Mathlib.Numerals.{add-one}
 use native.Mathlib.Omega.{arith}
+use borrow.Author.Tests.{lt-ltb, le-ltb}
 use lib.ListN.{length, take, getD, set}
 use lib.Seq.{take-suc, take-all}
+use Rattle.laws.specs.Table.{tabulate, tabulate-more}
+use Rattle.model.specs.declared.RouteStep.{RouteStep}
+use Rattle.model.specs.Listing.{text, decimal, sideLetter, windowText, stepText, stepsText}
 use Rattle.listing.specs.Written.{Wrote, wrote-none, wrote-byte, wrote-on, wrote-length, wrote-same}
+use Rattle.listing.specs.Line.{stepIn, stepsIn}
 
 -- ---- a text byte by byte
 pub record Copied (text : List ℕ) (a k : ℕ) (xs t : List ℕ) : Type 0 where
@@ -29,3 +34,98 @@ pub copy-end : {text : List ℕ} {a k : ℕ} {xs t : List ℕ} → Copied text a
 copy-end {text} {a} {k} r h = wrote-same (take-all k text h) (omega (arith, r .within)) (r .wrote)
 
 pub ruleset copying = (copy-none, copy-turn, copy-end)
+
+-- ---- single letters
+pub letter-0 : {n : ℕ} → n ≡ 0 → 78 ∷ [] ≡ sideLetter n
+unfolding tabulate
+letter-0 e = rw e
+
+pub letter-1 : {n : ℕ} → n ≡ 1 → 69 ∷ [] ≡ sideLetter n
+unfolding tabulate
+letter-1 e = rw e
+
+pub letter-2 : {n : ℕ} → n ≡ 2 → 83 ∷ [] ≡ sideLetter n
+unfolding tabulate
+letter-2 e = rw e
+
+pub letter-3 : (n : ℕ) → (n ≡ 0 → ⊥) → (n ≡ 1 → ⊥) → (n ≡ 2 → ⊥) → 87 ∷ [] ≡ sideLetter n
+unfolding tabulate
+letter-3 zero e f g = absurd (e refl)
+letter-3 (suc zero) e f g = absurd (f refl)
+letter-3 (suc (suc zero)) e f g = absurd (g refl)
+letter-3 (suc (suc (suc n))) e f g = refl
+
+pub ruleset letters = (letter-0, letter-1, letter-2, letter-3)
+
+pub space : 32 ∷ [] ≡ text " "
+unfolding tabulate
+space = refl
+
+pub comma : 44 ∷ [] ≡ text ","
+unfolding tabulate
+comma = refl
+
+pub colon : 58 ∷ [] ≡ text ":"
+unfolding tabulate
+colon = refl
+
+pub dash : 45 ∷ [] ≡ text "-"
+unfolding tabulate
+dash = refl
+
+pub newline : 10 ∷ [] ≡ text "\n"
+unfolding tabulate
+newline = refl
+
+-- ---- a byte that is a letter's text, alone and before more
+pub byte-last : {t : List ℕ} {b a z : ℕ} {xs ys : List ℕ} → b ∷ [] ≡ t → Wrote (b ∷ []) a z xs ys → Wrote t a z xs ys
+byte-last e w = wrote-same e refl w
+
+pub byte-on : {t u : List ℕ} {b a m z : ℕ} {xs ys zs : List ℕ} → b ∷ [] ≡ t → Wrote (b ∷ []) a m xs ys → Wrote u m z ys zs → Wrote (t ++ u) a z xs zs
+byte-on e v w = wrote-on (byte-last e v) w
+
+pub ruleset writing = (wrote-on, byte-last, byte-on, space, comma, colon, dash, newline)
+
+-- ---- a step's window
+module _ {a z : ℕ} {xs ys : List ℕ} (s : RouteStep) where
+  pub with-window : s .side < 4 → Wrote (sideLetter (s .side) ++ (decimal (s .«first») ++ (text "-" ++ decimal (s .last)))) a z xs ys → Wrote (windowText s) a z xs ys
+  unfolding windowText
+  with-window h w = rw (lt-ltb (s .side) 4 h) w
+
+  pub without-window : 4 ≤ s .side → Wrote (text "-") a z xs ys → Wrote (windowText s) a z xs ys
+  unfolding windowText
+  without-window h w = rw (le-ltb (s .side) 4 h) w
+
+pub ruleset window = (with-window, without-window)
+
+-- ---- steps one after the other
+steps-append : (s r : List RouteStep) → stepsText (s ++ r) ≡ stepsText s ++ stepsText r
+unfolding stepsText
+steps-append [] r = refl
+steps-append (x ∷ s) r = ap (λ l. stepText x ++ l) (steps-append s r) ∙ sym (append-assoc (stepText x) (stepsText s) (stepsText r))
+
+steps-more : (flat : List ℕ) (k : ℕ) → stepsText (stepsIn k flat) ++ stepText (stepIn flat k) ≡ stepsText (stepsIn (k + 1) flat)
+unfolding stepsIn stepsText
+steps-more flat k = rw (tabulate-more (stepIn flat) k, steps-append, append-nil)
+
+pub record Stepped (flat : List ℕ) (a steps k z : ℕ) (xs t : List ℕ) : Type 0 where
+  pub within : k ≤ steps
+  pub same : length t ≡ length xs
+  pub short : z ≤ a + 20 * k
+  pub wrote : Wrote (stepsText (stepsIn k flat)) a z xs t
+
+pub step-none : (flat : List ℕ) (a steps : ℕ) (xs : List ℕ) → a + 20 * steps ≤ length xs → Stepped flat a steps 0 a xs xs
+unfolding stepsIn stepsText tabulate
+step-none flat a steps xs h = record { within = omega arith; same = refl; short = omega arith; wrote = wrote-none a xs (omega arith) }
+
+pub step-turn : {flat : List ℕ} {a steps k z w : ℕ} {xs t u : List ℕ} {s : RouteStep} → Stepped flat a steps k z xs t → k < steps → s ≡ stepIn flat k → Wrote (stepText s) z w t u → w ≤ z + 20 → Stepped flat a steps (k + 1) w xs u
+step-turn {flat} {a} {steps} {k} {z} {w} {xs} {t} {u} r h e v l =
+    let more = wrote-same (steps-more flat k) refl (wrote-on (r .wrote) (wrote-same (ap stepText e) refl v)) in
+    record { within = omega arith; same = wrote-length more; short = omega (arith, r .short); wrote = more }
+
+pub step-end : {flat : List ℕ} {a steps k z : ℕ} {xs t : List ℕ} → Stepped flat a steps k z xs t → steps ≤ k → Wrote (stepsText (stepsIn steps flat)) a z xs t
+step-end {flat} {steps} {k} r h =
+    let all : k ≡ steps = omega (arith, r .within) in
+    wrote-same (ap (λ n. stepsText (stepsIn n flat)) all) refl (r .wrote)
+
+pub ruleset stepping = (step-none, step-turn, step-end)
