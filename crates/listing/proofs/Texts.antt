@@ -5,13 +5,16 @@ use Prim.Native.Nat.{ℕ, zero, suc, _+_, _*_, _≤_, _<_}
 use native.Mathlib.Numerals.{add-one}
 use native.Mathlib.Omega.{arith}
 use borrow.Author.Tests.{lt-ltb, le-ltb}
-use lib.ListN.{length, take, getD, set}
+use lib.ListN.{length, take, drop, getD, set}
 use lib.Seq.{take-suc, take-all}
 use Rattle.laws.specs.Table.{tabulate, tabulate-more}
 use Rattle.model.specs.declared.RouteStep.{RouteStep}
+use Rattle.model.specs.declared.Routed.{Routed}
+use Rattle.model.specs.declared.Routed.the-variants.{Route, NoRoute, Refused}
+use Rattle.model.specs.Calls.{routedSteps}
 use Rattle.model.specs.Listing.{text, decimal, sideLetter, windowText, stepText, stepsText}
-use Rattle.listing.specs.Written.{Wrote, wrote-none, wrote-byte, wrote-on, wrote-length, wrote-same}
-use Rattle.listing.specs.Line.{stepIn, stepsIn}
+use Rattle.listing.specs.Written.{Wrote, wrote-none, wrote-byte, wrote-on, wrote-length, wrote-same, wrote-first}
+use Rattle.listing.specs.Line.{stepIn, stepsIn, routeText, routedText}
 
 -- ---- a text byte by byte
 pub record Copied (text : List ℕ) (a k : ℕ) (xs t : List ℕ) : Type 0 where
@@ -129,3 +132,32 @@ step-end {flat} {steps} {k} r h =
     wrote-same (ap (λ n. stepsText (stepsIn n flat)) all) refl (r .wrote)
 
 pub ruleset stepping = (step-none, step-turn, step-end)
+
+-- ---- a line, from the buffer's first byte on
+pub whole-line : (t : List ℕ) {z : ℕ} {xs ys : List ℕ} → Wrote t 0 z xs ys → ((z ≡ length t) × (z ≤ length xs)) × (ys ≡ t ++ drop (length t) xs)
+whole-line t w = ((omega (arith, w .place), w .fits), wrote-first w)
+
+-- ---- what an answer says
+module _ {answer : Routed} {steps leg run : ℕ} (e : answer ≡ Route steps leg run) where
+  pub route-room : (a n : ℕ) → a + 20 * routedSteps answer + 33 ≤ n → a + 20 * steps + 33 ≤ n
+  route-room a n h = omega (arith, ap routedSteps e)
+
+  pub route-held : (n : ℕ) → 6 * routedSteps answer ≤ n → 6 * steps ≤ n
+  route-held n h = omega (arith, ap routedSteps e)
+
+  pub route-short : (a z : ℕ) → z ≤ a + 20 * steps + 33 → z ≤ a + 20 * routedSteps answer + 33
+  route-short a z h = omega (arith, ap routedSteps e)
+
+  pub route-text : (flat : List ℕ) {a z : ℕ} {xs ys : List ℕ} → Wrote (routeText steps leg run flat) a z xs ys → Wrote (routedText answer flat) a z xs ys
+  unfolding routedText
+  route-text flat w = wrote-same (ap (λ r. routedText r flat) (sym e)) refl w
+
+pub none-text : {answer : Routed} (flat : List ℕ) {a z : ℕ} {xs ys : List ℕ} → answer ≡ NoRoute → Wrote (32 ∷ 110 ∷ 111 ∷ 110 ∷ 101 ∷ []) a z xs ys → Wrote (routedText answer flat) a z xs ys
+unfolding routedText tabulate
+none-text flat e w = wrote-same (ap (λ r. routedText r flat) (sym e)) refl w
+
+pub refused-text : {answer : Routed} (flat : List ℕ) {n a m z : ℕ} {xs ys zs : List ℕ} → answer ≡ Refused n → Wrote (32 ∷ 110 ∷ 111 ∷ 32 ∷ []) a m xs ys → Wrote (decimal n) m z ys zs → Wrote (routedText answer flat) a z xs zs
+unfolding routedText tabulate
+refused-text flat e v w = wrote-same (ap (λ r. routedText r flat) (sym e)) refl (wrote-on v w)
+
+pub ruleset answering = (route-room, route-held, route-short, route-text, none-text, refused-text)
