@@ -7,7 +7,7 @@ use native.Mathlib.Numerals.{add-one}
 use native.Mathlib.Omega.{arith}
 use mir.Val.{Fits}
 use mir.Syntax.{w32, w64}
-use lib.ListN.{length, take, drop, getD, set, length-append, length-drop, length-set, take-append-drop}
+use lib.ListN.{length, take, drop, set, length-append, length-drop, length-set, take-append-drop}
 use lib.Seq.{take-set-le, drop-set-add, set-split, drop-at, length-take-le}
 use Rattle.laws.specs.Region.{within, placed}
 use Rattle.model.specs.Listing.{decimal}
@@ -27,13 +27,10 @@ count-turn {n} {count} {rest} r h = record { sum = omega (arith, r .sum, length-
 pub count-end : {n count rest : ℕ} → Counted n count rest → rest < 10 → count ≡ length (decimal n)
 count-end {n} {count} {rest} r h = omega (arith, r .sum, length-one rest h)
 
-pub count-few : {n count rest : ℕ} → Counted n count rest → Fits w64 n → count ≤ 20
-count-few {n} {count} {rest} r h = omega (arith, r .sum, some-digits rest, few-digits 19 n (omega arith))
-
 pub count-fits : {n count rest : ℕ} → Counted n count rest → Fits w64 n → Fits w64 (count + 1)
-count-fits r h = omega (arith, count-few r h)
+count-fits {n} {count} {rest} r h = omega (arith, r .sum, some-digits rest, few-digits 19 n (omega arith))
 
-pub ruleset counted = (count-none, count-turn, count-end, count-few, count-fits)
+pub ruleset counted = (count-none, count-turn, count-end, count-fits)
 
 -- ---- the digits from the last one: what the rest would fill in now is what was to be filled in at first
 drop-set : (l : List ℕ) (j v : ℕ) → j < length l → drop j (set l j v) ≡ v ∷ drop (suc j) l

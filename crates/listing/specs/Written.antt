@@ -14,7 +14,7 @@ pub record Wrote (t : List ℕ) (a z : ℕ) (xs ys : List ℕ) : Type 0 where
   pub fits : z ≤ length xs
   pub is : ys ≡ placed a t xs
 
-pub length-placed : (a : ℕ) (t xs : List ℕ) → a + length t ≤ length xs → length (placed a t xs) ≡ length xs
+length-placed : (a : ℕ) (t xs : List ℕ) → a + length t ≤ length xs → length (placed a t xs) ≡ length xs
 unfolding placed within
 length-placed a t xs h = simp (length-append, length-take, length-drop) (omega arith)
 

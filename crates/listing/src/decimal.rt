@@ -11,7 +11,7 @@ use fields::numbers::wide;
 
 // How many digits a number has.
 fn digit_count(n: usize) -> usize
-    ensures { λ r. ⌜ (r ≡ length (decimal n)) × (r ≤ 20) ⌝ }
+    ensures { λ r. ⌜ r ≡ length (decimal n) ⌝ }
 {
     let mut count = 1;
     let mut rest = n;
@@ -22,7 +22,7 @@ fn digit_count(n: usize) -> usize
     count
 }
 
-// The last digits of a number, from the last one.
+// The last digits of a number, filled in from the last one.
 fn put_digits(line: &mut [u8], at: usize, n: usize, count: usize)
     requires { ⌜ at + count ≤ length (now line) ⌝ }
     ensures { λ _. ⌜ now (line .exit) ≡ placed at (padded count n) (now (line .entry)) ⌝ }
@@ -53,7 +53,7 @@ pub fn put_small(line: &mut [u8], at: usize, n: u8) -> usize
     put_decimal(line, at, wide(n))
 }
 
-// A u32 has ten digits at most, a usize twenty.
+// A u32 has ten digits at most.
 pub fn put_medium(line: &mut [u8], at: usize, n: u32) -> usize
     requires { ⌜ at + 10 ≤ length (now line) ⌝ }
     ensures { λ r. ⌜ Wrote (decimal n) at r (now (line .entry)) (now (line .exit)) × (r ≤ at + 10) ⌝ }
@@ -61,6 +61,7 @@ pub fn put_medium(line: &mut [u8], at: usize, n: u32) -> usize
     put_decimal(line, at, n as usize)
 }
 
+// A usize has twenty digits at most.
 pub fn put_large(line: &mut [u8], at: usize, n: usize) -> usize
     requires { ⌜ at + 20 ≤ length (now line) ⌝ }
     ensures { λ r. ⌜ Wrote (decimal n) at r (now (line .entry)) (now (line .exit)) × (r ≤ at + 20) ⌝ }

@@ -1,4 +1,4 @@
-// The line of a pair: source and goal, then what the route call answered.
+// The line of a pair: source and goal, then what the route call answered. A local that holds a place is named by what stands there.
 ghost use mathlib.Core.Path.{_≡_};
 ghost use mathlib.Core.List.{[], _∷_, _++_};
 ghost use Prim.Native.Nat.{_+_, _*_, _≤_};
@@ -40,6 +40,7 @@ fn put_window(line: &mut [u8], at: usize, s: RouteStep) -> usize
     put_small(line, last, s.last)
 }
 
+// Column, row and goal index of a step, and its window.
 fn put_step(line: &mut [u8], at: usize, s: RouteStep) -> usize
     requires { ⌜ at + 20 ≤ length (now line) ⌝ }
     ensures { λ r. ⌜ Wrote (stepText s) at r (now (line .entry)) (now (line .exit)) × (r ≤ at + 20) ⌝ }
@@ -69,6 +70,7 @@ fn step_in(flat: &[u8], k: usize) -> RouteStep
     }
 }
 
+// The first steps of a flat list.
 fn put_steps(line: &mut [u8], at: usize, steps: usize, flat: &[u8]) -> usize
     requires { ⌜ (at + 20 * steps ≤ length (now line)) × (6 * steps ≤ length (now flat)) ⌝ }
     ensures { λ r. ⌜ Wrote (stepsText (stepsIn steps (now (flat .entry)))) at r (now (line .entry)) (now (line .exit)) × (r ≤ at + 20 * steps) ⌝ }
@@ -89,13 +91,14 @@ fn put_route(line: &mut [u8], at: usize, steps: u32, leg: u32, run: u32, flat: &
 {
     let count = put_byte(line, at, b' ');
     let space = put_medium(line, count, steps);
-    let moves = put_byte(line, space, b' ');
-    let gap = put_medium(line, moves, leg);
-    let rest = put_byte(line, gap, b' ');
-    let list = put_medium(line, rest, run);
+    let leg_at = put_byte(line, space, b' ');
+    let gap = put_medium(line, leg_at, leg);
+    let run_at = put_byte(line, gap, b' ');
+    let list = put_medium(line, run_at, run);
     put_steps(line, list, steps as usize, flat)
 }
 
+// A route, `none`, or `no` and a refusal's number.
 fn put_answer(line: &mut [u8], at: usize, answer: Routed, flat: &[u8]) -> usize
     requires { ⌜ (at + 20 * routedSteps answer + 33 ≤ length (now line)) × (6 * routedSteps answer ≤ length (now flat)) ⌝ }
     ensures { λ r. ⌜ Wrote (routedText answer (now (flat .entry))) at r (now (line .entry)) (now (line .exit)) × (r ≤ at + 20 * routedSteps answer + 33) ⌝ }
@@ -117,8 +120,8 @@ pub fn line_of(source: usize, goal: usize, answer: Routed, flat: &[u8], line: &m
     ensures written { λ _. ⌜ now (line .exit) ≡ lineOf source goal answer (now (flat .entry)) ++ drop (length (lineOf source goal answer (now (flat .entry)))) (now (line .entry)) ⌝ }
 {
     let space = put_large(line, 0, source);
-    let second = put_byte(line, space, b' ');
-    let rest = put_large(line, second, goal);
-    let end = put_answer(line, rest, answer, flat);
+    let goal_at = put_byte(line, space, b' ');
+    let answer_at = put_large(line, goal_at, goal);
+    let end = put_answer(line, answer_at, answer, flat);
     put_byte(line, end, b'\n')
 }

@@ -1,6 +1,7 @@
 -- `lines::line_of` meets its contract: source, goal and answer, and the line's end.
 use Rattle.listing.specs.Line.{lineOf}
-use Rattle.listing.proofs.Texts.{writing, whole-line}
+use Rattle.listing.proofs.Texts.{writing}
+use Rattle.listing.proofs.LineParts.{whole-line}
 use borrow.Author.Needs.{needs}
 use Rattle.listing.proofs.lines.line_of.Statement.{statement}
 use Rattle.listing.proofs.lines.line_of.Tie as tie

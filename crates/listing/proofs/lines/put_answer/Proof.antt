@@ -1,5 +1,5 @@
 -- `lines::put_answer` meets its contract: a route, none, or a refusal's number.
-use Rattle.listing.proofs.Texts.{answering}
+use Rattle.listing.proofs.LineParts.{answering}
 use borrow.Author.Needs.{needs}
 use Rattle.listing.proofs.lines.put_answer.Statement.{statement}
 use Rattle.listing.proofs.lines.put_answer.Tie as tie

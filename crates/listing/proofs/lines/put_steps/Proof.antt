@@ -1,6 +1,6 @@
 -- `lines::put_steps` meets its contract: after k turns the first k steps are written.
 use Prim.Native.Nat.{_-_}
-use Rattle.listing.proofs.Texts.{Stepped, stepping}
+use Rattle.listing.proofs.LineParts.{Stepped, stepping}
 use borrow.Author.Needs.{needs}
 use Rattle.listing.proofs.lines.put_steps.Statement.{statement}
 use Rattle.listing.proofs.lines.put_steps.Tie as tie

@@ -1,5 +1,6 @@
 -- `lines::put_window` meets its contract: letter, first and last place, or a dash.
-use Rattle.listing.proofs.Texts.{writing, window}
+use Rattle.listing.proofs.Texts.{writing}
+use Rattle.listing.proofs.LineParts.{window}
 use borrow.Author.Needs.{needs}
 use Rattle.listing.proofs.lines.put_window.Statement.{statement}
 use Rattle.listing.proofs.lines.put_window.Tie as tie
