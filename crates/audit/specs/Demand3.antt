@@ -17,6 +17,7 @@ use Rattle.laws.specs.Floor as floor
 use Rattle.laws.specs.Detour.{Promise}
 use Rattle.model.specs.declared.Measures.{Measures}
 use Rattle.model.specs.declared.RouteStep.{RouteStep}
+use Rattle.model.specs.declared.Routed.{Routed}
 use Rattle.model.specs.declared.Routed.the-variants as answer
 use Rattle.model.specs.Sectors.{cells}
 use Rattle.model.specs.Moves.{joined}
@@ -42,14 +43,14 @@ abbrev pub ChangesOnlyAtScale1 : Measures → List ℕ → List ℕ → List Cal
 ChangesOnlyAtScale1 m base lent list =
     (before : List Call) (n cost : ℕ) (rest : List Call) → list ≡ before ++ (change n cost ∷ rest) → changeNumber (storeAfter (buildInto m base lent) before) n cost ≡ 0 → m .scale ≡ 1
 
--- what the route call on a store says of the walks of an account
-pub record Claim (a : Account) (st : List ℕ) (source goal room : ℕ) : Type 0 where
+-- what the answer r to a route call says of the walks of an account
+pub record Claim (a : Account) (source goal : ℕ) (r : Routed) : Type 0 where
   -- "A route is given exactly when a walk exists;"
-  pub exactly-when : ((steps leg run : ℕ) × (routeAnswer st source goal room ≡ answer.Route steps leg run)) ↔ ((n k : ℕ) × Walk a source goal n k)
+  pub exactly-when : ((steps leg run : ℕ) × (r ≡ answer.Route steps leg run)) ↔ ((n k : ℕ) × Walk a source goal n k)
   -- "leg plus run is then the move count of some walk;"
-  pub some-walk : (steps leg run : ℕ) → routeAnswer st source goal room ≡ answer.Route steps leg run → (k : ℕ) × Walk a source goal (leg + run) k
+  pub some-walk : (steps leg run : ℕ) → r ≡ answer.Route steps leg run → (k : ℕ) × Walk a source goal (leg + run) k
   -- "and run is at most n + 10 × k - 5 for every walk of n moves that crosses k sector borders."
-  pub at-most : (steps leg run : ℕ) → routeAnswer st source goal room ≡ answer.Route steps leg run → (n k : ℕ) → Walk a source goal n k → run + 5 ≤ n + 10 * k
+  pub at-most : (steps leg run : ℕ) → r ≡ answer.Route steps leg run → (n k : ℕ) → Walk a source goal n k → run + 5 ≤ n + 10 * k
 
 -- ---- the store after the list
 -- the store is the build of the account
@@ -166,7 +167,7 @@ module _ (lent : List ℕ) (a : Account) (st : List ℕ) (f : Follows lent a st)
       let few = route-room hall is-fresh source goal apart-there (g .0) leg run (g .1) in
       (length (g .0), leg, run, answer-is ∙ rw (g .1, lt-leb (cells (a .measures)) source from, lt-leb (cells (a .measures)) goal to, le-ltb room (length (g .0)) (omega arith)))
 
-  claim : Claim a st source goal room
+  claim : Claim a source goal (routeAnswer st source goal room)
   claim = record {
     exactly-when = (
       λ r. let w = kept .exactly-when .0 (r .1, r .2, given (r .0) (r .1) (r .2) (r .3)) in (w .0, w .1, walk-is a cell-costs source goal (w .0) (w .1) .0 (w .2)),
@@ -185,6 +186,6 @@ build-follows m base lent e = record { stored = rw e; accepted = accepts m base 
 pub demand-3 : (m : Measures) (base lent : List ℕ) → buildNumber m base lent ≡ 0
     → (list : List Call) → ChangesOnlyAtScale1 m base lent list
     → (source goal room : ℕ) → source ≢ goal → joined (accountCosts (accountAfter (opening m base) list)) source goal ≡ false → 1001 ≤ room
-    → Claim (accountAfter (opening m base) list) (storeAfter (buildInto m base lent) list) source goal room
+    → Claim (accountAfter (opening m base) list) source goal (routeAnswer (storeAfter (buildInto m base lent) list) source goal room)
 demand-3 m base lent accepted list only source goal room differ apart roomy =
     claim lent (accountAfter (opening m base) list) (storeAfter (buildInto m base lent) list) (store-after lent list (opening m base) (buildInto m base lent) (build-follows m base lent accepted) only) source goal room apart roomy

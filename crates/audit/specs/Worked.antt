@@ -27,7 +27,7 @@ abbrev list : List Call
 list = change 0 255 ∷ change 200 1 ∷ route 5 7 1 ∷ []
 
 -- the premises hold, so the theorem speaks of 99 to 190
-claims : Claim (accountAfter (opening (hall 2 1 1) base) list) (storeAfter (buildInto (hall 2 1 1) base lent) list) 99 190 1001
+claims : Claim (accountAfter (opening (hall 2 1 1) base) list) 99 190 (routeAnswer (storeAfter (buildInto (hall 2 1 1) base lent) list) 99 190 1001)
 unfolding computing
 claims = demand-3 (hall 2 1 1) base lent refl list (λ before n cost rest e k. refl) 99 190 1001 (λ e. omega arith) refl (omega arith)
 

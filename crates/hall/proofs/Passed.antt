@@ -15,7 +15,7 @@ unfolding orElse
 refused-first zero rest h = absurd (omega arith)
 refused-first (suc r) rest h = refl
 
-pub not-accepted : (n : ℕ) (new old : List ℕ) → 0 < n → old ≡ ifAccepted n new old
+pub not-accepted : {A : Type 0} (n : ℕ) (new old : A) → 0 < n → old ≡ ifAccepted n new old
 unfolding ifAccepted
 not-accepted zero new old h = absurd (omega arith)
 not-accepted (suc n) new old h = refl

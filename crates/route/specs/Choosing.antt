@@ -148,57 +148,69 @@ foremost-end {runs} {n} {r} f a b = let all : n ≡ 400 = omega arith in rw all 
 pub ruleset foremost = (foremost-none, foremost-turn, foremost-end)
 
 -- ---- the pair
-module _ (h : Hall) (fits : Fits h) (source goal : ℕ) where
+in-nothing : {A : Type 0} {x : A} → In x [] → ⊥
+in-nothing = elim [ ]
+
+module _ (h : Hall) (source goal : ℕ) where
+  -- pair j, with the key of its path, its leg and the moves from its end to the goal
   abbrev pub pairAt : ℕ → Pair
   pairAt j = record { start = sectorOf source * 20 + j / 20; end = endOf h (portalGraph h) goal (sectorOf goal * 20 + j % 20) }
 
-  cells : ℕ → List Pair
-  cells = cell linkedPair (endOf h (portalGraph h) goal) (λ p. isPortal h p && joined (h .scaled) source (midCell h p)) (λ p. isPortal h p && joined (h .scaled) (midCell h p) goal) (sectorOf source * 20) (sectorOf goal * 20)
+  abbrev pub keyAt : ℕ → ℕ
+  keyAt j = getD (keysTo (portalGraph h) (sectorOf goal * 20 + j % 20)) (sectorOf source * 20 + j / 20) 0
 
-  pairs-are : routePairs h (portalGraph h) source goal ≡ spans cells 400 0
-  unfolding routePairs starts ends cells
-  pairs-are = pairs-in-row linkedPair (endOf h (portalGraph h) goal) (λ p. isPortal h p && joined (h .scaled) source (midCell h p)) (λ p. isPortal h p && joined (h .scaled) (midCell h p) goal) (sectorOf source * 20) (sectorOf goal * 20)
+  abbrev pub legAt : ℕ → ℕ
+  legAt j = getD (portalMoves h source) (j / 20) 0
 
-  module _ {runs : List ℕ} (are : runs ≡ tabulate (runIn (portalGraph h) (portalMoves h source) (portalMoves h goal) (sectorOf source * 20) (sectorOf goal * 20)) 400 0) where
-    keyOf : ℕ → ℕ
-    keyOf j = getD (keysTo (portalGraph h) (sectorOf goal * 20 + j % 20)) (sectorOf source * 20 + j / 20) 0
+  abbrev pub lastAt : ℕ → ℕ
+  lastAt j = getD (portalMoves h goal) (j % 20) 0
 
-    leg : ℕ → ℕ
-    leg j = getD (portalMoves h source) (j / 20) 0
+  -- pair j is 01's pair
+  pub record Chosen (j : ℕ) : Type 0 where
+    pub low : j < 400
+    pub near-start : legAt j < apart
+    pub near-end : lastAt j < apart
+    pub linked : keyAt j < unlinked
+    pub wins : chosenPair h (portalGraph h) source goal ≡ best (pairAt j)
 
-    last : ℕ → ℕ
-    last j = getD (portalMoves h goal) (j % 20) 0
+  module _ (fits : Fits h) {runs : List ℕ} (are : runs ≡ tabulate (runIn (portalGraph h) (portalMoves h source) (portalMoves h goal) (sectorOf source * 20) (sectorOf goal * 20)) 400 0) where
+    cells : ℕ → List Pair
+    cells = cell linkedPair (endOf h (portalGraph h) goal) (λ p. isPortal h p && joined (h .scaled) source (midCell h p)) (λ p. isPortal h p && joined (h .scaled) (midCell h p) goal) (sectorOf source * 20) (sectorOf goal * 20)
 
-    nth-is : (j : ℕ) → j < 400 → nth runs j ≡ runFor (keyOf j) (leg j) (last j)
-    unfolding runIn keyOf leg last
+    pairs-are : routePairs h (portalGraph h) source goal ≡ spans cells 400 0
+    unfolding routePairs starts ends cells
+    pairs-are = pairs-in-row linkedPair (endOf h (portalGraph h) goal) (λ p. isPortal h p && joined (h .scaled) source (midCell h p)) (λ p. isPortal h p && joined (h .scaled) (midCell h p) goal) (sectorOf source * 20) (sectorOf goal * 20)
+
+    nth-is : (j : ℕ) → j < 400 → nth runs j ≡ runFor (keyAt j) (legAt j) (lastAt j)
+    unfolding runIn
     nth-is j l =
         let k : j % 20 * 20 + j / 20 < 400 = omega arith in
         let d : (j % 20 * 20 + j / 20) / 20 ≡ j % 20 = omega arith in
         let c : (j % 20 * 20 + j / 20) % 20 ≡ j / 20 = omega arith in
         table-at (runIn (portalGraph h) (portalMoves h source) (portalMoves h goal) (sectorOf source * 20) (sectorOf goal * 20)) 400 are (j % 20 * 20 + j / 20) 0 k ∙ rw (d, c)
 
+    cell-is : (j : ℕ) → j < 400 → cells j ≡ pick (ltb (legAt j) apart) (pick (ltb (lastAt j) apart) (pick (ltb (keyAt j) unlinked) (pairAt j ∷ []) []) []) []
+    unfolding cells linkedPair endOf
+    cell-is j l = rw (start-test h fits source (j / 20) (omega arith), end-test h fits goal (j % 20) (omega arith))
+
     -- what stands at place j
     data Place (j : ℕ) : Type 0 where
       empty : cells j ≡ [] → nth runs j ≡ unlinked → Place j
-      holds : cells j ≡ pairAt j ∷ [] → nth runs j ≡ runOf (pairAt j) → nth runs j < unlinked → Place j
-
-    cell-is : (j : ℕ) → j < 400 → cells j ≡ pick (ltb (leg j) apart) (pick (ltb (last j) apart) (pick (ltb (keyOf j) unlinked) (pairAt j ∷ []) []) []) []
-    unfolding cells linkedPair endOf keyOf leg last
-    cell-is j l = rw (start-test h fits source (j / 20) (omega arith), end-test h fits goal (j % 20) (omega arith))
+      holds : legAt j < apart → lastAt j < apart → keyAt j < unlinked → cells j ≡ pairAt j ∷ [] → nth runs j ≡ runOf (pairAt j) → nth runs j < unlinked → Place j
 
     place : (j : ℕ) → j < 400 → Place j
-    unfolding runFor runOf endOf keyOf last
-    place j l = go (ltb (leg j) apart) (ltb (last j) apart) (ltb (keyOf j) unlinked) refl refl refl
+    unfolding runFor runOf endOf
+    place j l = go (ltb (legAt j) apart) (ltb (lastAt j) apart) (ltb (keyAt j) unlinked) refl refl refl
       where
-        read : (a b c : Bool) → ltb (leg j) apart ≡ a → ltb (last j) apart ≡ b → ltb (keyOf j) unlinked ≡ c → (cells j ≡ pick a (pick b (pick c (pairAt j ∷ []) []) []) []) × (nth runs j ≡ pick (a && (b && c)) (costOfKey (keyOf j) + last j) unlinked)
+        read : (a b c : Bool) → ltb (legAt j) apart ≡ a → ltb (lastAt j) apart ≡ b → ltb (keyAt j) unlinked ≡ c → (cells j ≡ pick a (pick b (pick c (pairAt j ∷ []) []) []) []) × (nth runs j ≡ pick (a && (b && c)) (costOfKey (keyAt j) + lastAt j) unlinked)
         read a b c e f g = (cell-is j l ∙ rw (e, f, g), nth-is j l ∙ rw (e, f, g))
 
-        go : (a b c : Bool) → ltb (leg j) apart ≡ a → ltb (last j) apart ≡ b → ltb (keyOf j) unlinked ≡ c → Place j
+        go : (a b c : Bool) → ltb (legAt j) apart ≡ a → ltb (lastAt j) apart ≡ b → ltb (keyAt j) unlinked ≡ c → Place j
         go true true true e f g =
-            let near : last j < apart = ltb-true (last j) apart f in
-            let below : keyOf j < unlinked = ltb-true (keyOf j) unlinked g in
+            let near : lastAt j < apart = ltb-true (lastAt j) apart f in
+            let below : keyAt j < unlinked = ltb-true (keyAt j) unlinked g in
             let r = read true true true e f g in
-            holds (r .0) (r .1 ∙ ap (λ (n : ℕ). costOfKey (keyOf j) + n) (sym (last-moves h fits goal (j % 20) (omega arith) near))) (omega (arith, r .1))
+            holds (ltb-true (legAt j) apart e) near below (r .0) (r .1 ∙ ap (λ (n : ℕ). costOfKey (keyAt j) + n) (sym (last-moves h fits goal (j % 20) (omega arith) near))) (omega (arith, r .1))
         go false b c e f g = let r = read false b c e f g in empty (r .0) (r .1)
         go true false c e f g = let r = read true false c e f g in empty (r .0) (r .1)
         go true true false e f g = let r = read true true false e f g in empty (r .0) (r .1)
@@ -206,33 +218,35 @@ module _ (h : Hall) (fits : Fits h) (source goal : ℕ) where
     weighs : (j : ℕ) → j < 400 → (x : Pair) → In x (cells j) → nth runs j ≡ runOf x
     weighs j l x i = go (place j l)
       where
+        alone : (x ≡ pairAt j) ⊎ In x [] → runOf x ≡ runOf (pairAt j)
+        alone (inl q) = ap runOf q
+        alone (inr q) = absurd (in-nothing q)
+
         go : Place j → nth runs j ≡ runOf x
-        go (empty e n) = absurd (in-none (rw e at i))
-          where
-            in-none : In x [] → ⊥
-            in-none = elim [ ]
-        go (holds e n b) = n ∙ sym (alone (in-cons (rw e at i)))
-          where
-            alone : (x ≡ pairAt j) ⊎ In x [] → runOf x ≡ runOf (pairAt j)
-            alone (inl q) = ap runOf q
-            alone (inr q) = absurd (in-none q)
-              where
-                in-none : In x [] → ⊥
-                in-none = elim [ ]
+        go (empty e n) = absurd (in-nothing (rw e at i))
+        go (holds a b k e n low) = n ∙ sym (alone (in-cons (rw e at i)))
 
     -- THE CHOSEN PAIR: none, or the foremost
-    pub chosen-none : ((j : ℕ) → j < 400 → unlinked ≤ nth runs j) → chosenPair h (portalGraph h) source goal ≡ nothing
+    pub chosen-none : {r : ℕ} → Foremost runs 400 r → 400 ≤ r → chosenPair h (portalGraph h) source goal ≡ nothing
     unfolding chosenPair winner
-    chosen-none all = ap (winner runOf nothing) (pairs-are ∙ spans-none cells 400 (λ j l. go j l (place j l)))
+    chosen-none (pair l below more least) past = absurd (omega arith)
+    chosen-none (no-pair e all) past = ap (winner runOf nothing) (pairs-are ∙ spans-none cells 400 (λ j l. go j l (place j l)))
       where
         go : (j : ℕ) → j < 400 → Place j → cells j ≡ []
         go j l (empty e n) = e
-        go j l (holds e n b) = absurd (omega (arith, all j l))
+        go j l (holds a b k e n low) = absurd (omega (arith, all j l))
 
-    pub chosen-pair : (r : ℕ) → r < 400 → nth runs r < unlinked → ((j : ℕ) → j < r → nth runs r < nth runs j) → ((j : ℕ) → j < 400 → nth runs r ≤ nth runs j) → chosenPair h (portalGraph h) source goal ≡ best (pairAt r)
+    pub chosen-some : {r : ℕ} → Foremost runs 400 r → r < 400 → Chosen r
     unfolding chosenPair
-    chosen-pair r l below more least = ap (winner runOf nothing) pairs-are ∙ go (place r l)
+    chosen-some (no-pair e all) past = absurd (omega arith)
+    chosen-some {r} (pair l below more least) past = go (place r l)
       where
-        go : Place r → winner runOf nothing (spans cells 400 0) ≡ best (pairAt r)
+        go : Place r → Chosen r
         go (empty e n) = absurd (omega arith)
-        go (holds e n b) = leads-winner runOf (spans-leads cells 400 runOf (nth runs) weighs r l e (λ j k. omega (arith, n, more j k)) (λ j k. omega (arith, n, least j k)))
+        go (holds a b k e n low) = record {
+          low = l;
+          near-start = a;
+          near-end = b;
+          linked = k;
+          wins = ap (winner runOf nothing) pairs-are ∙ leads-winner runOf (spans-leads cells 400 runOf (nth runs) weighs r l e (λ j i. omega (arith, n, more j i)) (λ j i. omega (arith, n, least j i)));
+        }

@@ -8,3 +8,4 @@ pub mod Near
 pub mod Choosing
 pub mod PortalPaths
 pub mod Stepping
+pub mod Finding

@@ -1,0 +1,60 @@
+// Demand 3 of the running code: a hall is built, a list of calls is made in turn on its store, and the last route call answers.
+ghost use mathlib.Core.Path.{_≡_};
+ghost use Prim.Native.Nat.{_/_};
+ghost use lib.ListN.{length};
+ghost use Rattle.model.specs.Calls.{measuresOf, storeAfterCall, storeAfter};
+ghost use Rattle.journey.specs.Journey.{callOf, callsIn, stepsAfterCall, stepsAfter, journeyAnswer, journeyInto, journeySteps};
+ghost use Rattle.journey.specs.Demand3.{Demand3};
+use hall::build::build;
+use hall::change::change;
+use hall::route::route;
+use model::Routed;
+
+// Makes one call: kind 0 changes the cell of floor number a to the low byte of b, any other kind asks for a route from a to b. What the call answers is not kept.
+fn make_call(kind: u32, a: u32, b: u32, st: &mut [u8], steps: &mut [u8])
+    ensures store { λ _. ⌜ now (st .exit) ≡ storeAfterCall (now (st .entry)) (callOf (length (now (steps .entry)) / 6) kind a b) ⌝ }
+    ensures steps { λ _. ⌜ now (steps .exit) ≡ stepsAfterCall (now (st .entry)) (callOf (length (now (steps .entry)) / 6) kind a b) (now (steps .entry)) ⌝ }
+{
+    if kind == 0 {
+        change(st, a as usize, (b % 256) as u8);
+        return;
+    }
+    route(st, a as usize, b as usize, steps);
+}
+
+// Makes the calls of a list in turn, three numbers a call.
+fn make_calls(calls: &[u32], st: &mut [u8], steps: &mut [u8])
+    ensures store { λ _. ⌜ now (st .exit) ≡ storeAfter (now (st .entry)) (callsIn (length (now (steps .entry)) / 6) (now (calls .entry))) ⌝ }
+    ensures steps { λ _. ⌜ now (steps .exit) ≡ stepsAfter (now (st .entry)) (callsIn (length (now (steps .entry)) / 6) (now (calls .entry))) (now (steps .entry)) ⌝ }
+{
+    let mut at = 0;
+    while 3 <= calls.len() - at {
+        make_call(calls[at], calls[at + 1], calls[at + 2], st, steps);
+        at += 3;
+    }
+}
+
+// Builds a hall in a store, makes the calls of a list in turn on it, and asks for a last route. The route calls share one step list, six bytes a step.
+pub fn route_after(
+    columns: u8,
+    rows: u8,
+    scale: u8,
+    base: &[u8],
+    calls: &[u32],
+    source: usize,
+    goal: usize,
+    st: &mut [u8],
+    steps: &mut [u8],
+) -> Routed
+    ensures answer { λ r. ⌜ r ≡ journeyAnswer (measuresOf columns rows scale) (now (base .entry)) (now (st .entry)) (callsIn (length (now (steps .entry)) / 6) (now (calls .entry))) source goal (length (now (steps .entry)) / 6) ⌝ }
+    ensures store { λ _. ⌜ now (st .exit) ≡ journeyInto (measuresOf columns rows scale) (now (base .entry)) (now (st .entry)) (callsIn (length (now (steps .entry)) / 6) (now (calls .entry))) ⌝ }
+    ensures steps { λ _. ⌜ now (steps .exit) ≡ journeySteps (measuresOf columns rows scale) (now (base .entry)) (now (st .entry)) (callsIn (length (now (steps .entry)) / 6) (now (calls .entry))) source goal (now (steps .entry)) ⌝ }
+    ensures demand3 { λ r. ⌜ Demand3 (measuresOf columns rows scale) (now (base .entry)) (now (st .entry)) (callsIn (length (now (steps .entry)) / 6) (now (calls .entry))) source goal (length (now (steps .entry)) / 6) r ⌝ }
+{
+    let number = build(columns, rows, scale, base, st);
+    if 0 < number {
+        return Routed::Refused(number);
+    }
+    make_calls(calls, st, steps);
+    route(st, source, goal, steps)
+}

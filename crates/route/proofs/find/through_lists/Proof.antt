@@ -1,0 +1,186 @@
+-- `through_lists` chooses a pair and takes the route over it.
+use native.Mathlib.Omega.{arith}
+use Prim.Native.Nat.{ℕ, _+_, _*_, _/_, _%_, _<_}
+use mathlib.Core.Path.{_≡_, refl, sym, ap, _∙_}
+use mathlib.Core.List.{List}
+use lib.ListN.{length, getD}
+use denote.Ref.{now}
+use Rattle.laws.specs.Table.{tabulate}
+use Rattle.laws.specs.Graph.{Graph}
+use Rattle.model.specs.Sectors.{sectors, sectorOf}
+use Rattle.model.specs.Portals.{portalGraph}
+use Rattle.model.specs.LeastPathFirst.{Fits}
+use Rattle.model.specs.Halls.{Hall}
+use Rattle.model.specs.Route.{Found, throughPortals}
+use Rattle.model.specs.Store.{decode}
+use Rattle.route.specs.Reading.{fits-of, measures-are}
+use Rattle.route.specs.Following.{Linked, graph-is, searched-of, searched-both-ways}
+use Rattle.route.specs.Near.{portalMoves}
+use Rattle.route.specs.Choosing.{runIn, Chosen, chosen-none, chosen-some}
+use Rattle.route.specs.Finding.{foundAnswer, foundInto, pair-found, pair-paired, pairRoute, none-found}
+use borrow.Author.Needs.{needs}
+use Rattle.route.proofs.find.through_lists.Statement.{statement}
+use Rattle.route.proofs.find.through_lists.Tie as tie
+
+abbrev S : tie.After-fill-edges → tie.Start
+S c = c .before .before .before .before .before .before .before .before .before .before .before .before
+
+abbrev E : tie.After-runs → tie.After-fill-edges
+E c = c .before .before .before .before .before .before .before
+
+abbrev hall : tie.Start → Hall
+hall s = decode (now (s .args .st))
+
+-- the route call's graph and near portals
+linked : (c : tie.After-fill-edges) → Linked (S c .args .m) (now (S c .args .st)) (c .fill-edges .last .1 .1 .0) (length (now (S c .args .keys)))
+linked c = record { opened = S c .pre .0; filled = c .fill-edges .ensures; numbers = S c .pre .4 }
+
+same-runs : {g h : Graph} {a b x y : List ℕ} (p q : ℕ) → g ≡ h → a ≡ b → x ≡ y → tabulate (runIn g a x p q) 400 0 ≡ tabulate (runIn h b y p q) 400 0
+same-runs p q e f k = rw (e, f, k)
+
+same-route : (h : Hall) (goal p e i j : ℕ) {a b x y : List ℕ} → a ≡ b → x ≡ y → pairRoute h goal p e (getD a i 0) (getD x j 0) ≡ pairRoute h goal p e (getD b i 0) (getD y j 0)
+same-route h goal p e i j f k = rw (f, k)
+
+abbrev R : tie.After-choose → tie.After-fill-runs
+R c = c .before .before .before .before .before
+
+abbrev B : tie.After-choose → tie.After-fill-edges
+B c = E (R c .before)
+
+legs-are : (c : tie.After-choose) → B c .before .before .before .before .before .before .portal-moves .last .1 .1 .1 .0 ≡ portalMoves (hall (S (B c))) (S (B c) .args .source)
+legs-are c = B c .before .before .before .before .before .before .portal-moves .ensures
+
+lasts-are : (c : tie.After-choose) → B c .before .before .before .portal-moves2 .last .1 .1 .1 .0 ≡ portalMoves (hall (S (B c))) (S (B c) .args .goal)
+lasts-are c = B c .before .before .before .portal-moves2 .ensures
+
+runs-are : (c : tie.After-choose) → R c .fill-runs .last .1 .1 .1 .1 .1 .1 .1 .0 ≡ tabulate (runIn (portalGraph (hall (S (B c)))) (portalMoves (hall (S (B c))) (S (B c) .args .source)) (portalMoves (hall (S (B c))) (S (B c) .args .goal)) (sectorOf (S (B c) .args .source) * 20) (sectorOf (S (B c) .args .goal) * 20)) 400 0
+runs-are c = R c .fill-runs .ensures ∙ same-runs (sectorOf (S (B c) .args .source) * 20) (sectorOf (S (B c) .args .goal) * 20) (graph-is (linked (B c))) (legs-are c) (lasts-are c)
+
+chosen : (c : tie.After-choose) → c .choose .result < 400 → Chosen (hall (S (B c))) (S (B c) .args .source) (S (B c) .args .goal) (c .choose .result)
+chosen c l = chosen-some (hall (S (B c))) (S (B c) .args .source) (S (B c) .args .goal) (fits-of (S (B c) .pre .0)) (runs-are c) (c .choose .ensures) l
+
+-- the route over it, with leg and last moves as they were read
+found-is : (c : tie.After-choose) → c .choose .result < 400 → let s = S (B c) in let k = c .choose .result in
+    throughPortals (hall s) (portalGraph (hall s)) (s .args .source) (s .args .goal)
+    ≡ pairRoute (hall s) (s .args .goal) (sectorOf (s .args .source) * 20 + k / 20) (sectorOf (s .args .goal) * 20 + k % 20) (getD (B c .before .before .before .before .before .before .portal-moves .last .1 .1 .1 .0) (k / 20) 0) (getD (B c .before .before .before .portal-moves2 .last .1 .1 .1 .0) (k % 20) 0)
+found-is c l =
+    let s = S (B c) in
+    let k = c .choose .result in
+    pair-found (hall s) (fits-of (s .pre .0)) (s .args .source) (s .args .goal) (chosen c l)
+    ∙ same-route (hall s) (s .args .goal) (sectorOf (s .args .source) * 20 + k / 20) (sectorOf (s .args .goal) * 20 + k % 20) (k / 20) (k % 20) (sym (legs-are c)) (sym (lasts-are c))
+
+slice-aggregate-portal-moves : tie.Need-slice-aggregate-portal-moves
+slice-aggregate-portal-moves c = search needs
+
+portal-moves-requires : tie.Need-portal-moves-requires
+portal-moves-requires c κs = search needs
+
+slice-aggregate-portal-moves-2 : tie.Need-slice-aggregate-portal-moves-2
+slice-aggregate-portal-moves-2 c = search needs
+
+portal-moves-requires-2 : tie.Need-portal-moves-requires-2
+portal-moves-requires-2 c κs = search needs
+
+fill-edges-requires : tie.Need-fill-edges-requires
+fill-edges-requires c κs = search needs
+
+mul-p : tie.Need-mul-p
+mul-p c = search needs
+
+mul-q : tie.Need-mul-q
+mul-q c = search needs
+
+slice-aggregate-fill-runs : tie.Need-slice-aggregate-fill-runs
+slice-aggregate-fill-runs c = search needs
+
+slice-aggregate-fill-runs-2 : tie.Need-slice-aggregate-fill-runs-2
+slice-aggregate-fill-runs-2 c = search needs
+
+slice-aggregate-fill-runs-3 : tie.Need-slice-aggregate-fill-runs-3
+slice-aggregate-fill-runs-3 c = search needs
+
+fill-runs-requires : tie.Need-fill-runs-requires
+fill-runs-requires c κs =
+    let s = S (E c) in
+    ((searched-of (linked (E c)), omega (arith, s .pre .1), omega (arith, s .pre .2), E c .before .before .before .before .before .before .portal-moves .kept .1 .1 .1 .0, E c .before .before .before .portal-moves2 .kept .1 .1 .1 .0, refl), searched-both-ways (linked (E c)))
+
+slice-aggregate-choose : tie.Need-slice-aggregate-choose
+slice-aggregate-choose c = search needs
+
+choose-requires : tie.Need-choose-requires
+choose-requires c κs = search needs
+
+same-length : tie.Need-same-length
+same-length c = search needs
+
+same-length-2 : tie.Need-same-length-2
+same-length-2 c = search needs
+
+returns : tie.Need-returns
+returns c = let s = S (B (c .before)) in none-found _ _ _ _ _ (chosen-none (hall s) (s .args .source) (s .args .goal) (fits-of (s .pre .0)) (runs-are (c .before)) (c .before .choose .ensures) (c .if1 .taken))
+
+array-read-leg : tie.Need-array-read-leg
+array-read-leg c = search needs
+
+array-read-last : tie.Need-array-read-last
+array-read-last c = search needs
+
+add-through-pair : tie.Need-add-through-pair
+add-through-pair c = search needs
+
+add-through-pair-2 : tie.Need-add-through-pair-2
+add-through-pair-2 c = search needs
+
+through-pair-requires : tie.Need-through-pair-requires
+through-pair-requires c κs =
+    let l = c .before .before .before in
+    let s = S (B (l .before)) in (
+      record { opened = s .pre .0; filled = B (l .before) .fill-edges .ensures; numbers = R (l .before) .fill-runs .kept .1 .1 .1 .1 .1 .1 .0 ∙ s .pre .4 },
+      pair-paired (hall s) (fits-of (s .pre .0)) (s .args .source) (s .args .goal) (chosen (l .before) (l .if1 .left)) (omega (arith, s .pre .2, ap sectors (measures-are (s .pre .0)))),
+    )
+
+same-length-3 : tie.Need-same-length-3
+same-length-3 c = search needs
+
+same-length-4 : tie.Need-same-length-4
+same-length-4 c = search needs
+
+same-length-5 : tie.Need-same-length-5
+same-length-5 c = search needs
+
+returns-2 : tie.Need-returns-2
+returns-2 c =
+    let l = c .before .before .before .before .before .before .before .before in
+    let call = c .before .before .before .before .through-pair in
+    let f = found-is (l .before) (l .if1 .left) in
+    (call .ensures .0 ∙ ap (foundAnswer _) (sym f), call .ensures .1 ∙ ap (λ (x : Found). foundInto x (now (S (B (l .before)) .args .list))) (sym f))
+
+pub through-lists-spec : {M : Type 1} → statement M
+through-lists-spec =
+    tie.close
+    (tie.spec
+    slice-aggregate-portal-moves
+    portal-moves-requires
+    slice-aggregate-portal-moves-2
+    portal-moves-requires-2
+    fill-edges-requires
+    mul-p
+    mul-q
+    slice-aggregate-fill-runs
+    slice-aggregate-fill-runs-2
+    slice-aggregate-fill-runs-3
+    fill-runs-requires
+    slice-aggregate-choose
+    choose-requires
+    same-length
+    same-length-2
+    returns
+    array-read-leg
+    array-read-last
+    add-through-pair
+    add-through-pair-2
+    through-pair-requires
+    same-length-3
+    same-length-4
+    same-length-5
+    returns-2)

@@ -1,0 +1,70 @@
+-- `through_portals` lends `through_lists` parts of its lists that are as long as the hall asks.
+use native.Mathlib.Omega.{arith}
+use Prim.Native.Nat.{_≤_}
+use lib.ListN.{length-take}
+use Rattle.route.specs.Reading.{few-of}
+use borrow.Author.Needs.{needs}
+use Rattle.route.proofs.find.through_portals.Statement.{statement}
+use Rattle.route.proofs.find.through_portals.Tie as tie
+
+table-room-requires : tie.Need-table-room-requires
+table-room-requires c κs = search needs
+
+key-room-requires : tie.Need-key-room-requires
+key-room-requires c κs = search needs
+
+sectors-requires : tie.Need-sectors-requires
+sectors-requires c κs = search needs
+
+low : (c : tie.After-sectors) → c .sectors .result ≤ 100
+low c = omega (arith, c .sectors .ensures, few-of (c .before .before .before .before .before .pre .0) .few)
+
+mul-arcs : tie.Need-mul-arcs
+mul-arcs c = omega (arith, low c)
+
+sectors-requires-2 : tie.Need-sectors-requires-2
+sectors-requires-2 c κs = search needs
+
+mul-numbers : tie.Need-mul-numbers
+mul-numbers c = omega (arith, c .sectors2 .ensures, c .before .sectors .ensures, low (c .before))
+
+array-borrow-prefix-table : tie.Need-array-borrow-prefix-table
+array-borrow-prefix-table c = search (needs, low (c .before))
+
+slice-aggregate-through-lists : tie.Need-slice-aggregate-through-lists
+slice-aggregate-through-lists c = simp length-take (omega (arith, low (c .before .before)))
+
+array-borrow-prefix-keys : tie.Need-array-borrow-prefix-keys
+array-borrow-prefix-keys c = search (needs, low (c .before .before))
+
+slice-aggregate-through-lists-2 : tie.Need-slice-aggregate-through-lists-2
+slice-aggregate-through-lists-2 c = simp length-take (omega (arith, low (c .before .before .before)))
+
+through-lists-requires : tie.Need-through-lists-requires
+through-lists-requires c κs =
+    let start = c .before .before .before .before .before .before .before .before .before in
+    (start .pre .0, start .pre .1, start .pre .2, simp length-take (omega (arith, c .before .before .before .before .sectors .ensures, low (c .before .before .before .before))), simp length-take (omega (arith, c .before .before .before .sectors2 .ensures, c .before .before .before .before .sectors .ensures, low (c .before .before .before .before))))
+
+same-length : tie.Need-same-length
+same-length c = search needs
+
+returns : tie.Need-returns
+returns c = search needs
+
+pub through-portals-spec : {M : Type 1} → statement M
+through-portals-spec =
+    tie.close
+    (tie.spec
+    table-room-requires
+    key-room-requires
+    sectors-requires
+    mul-arcs
+    sectors-requires-2
+    mul-numbers
+    array-borrow-prefix-table
+    slice-aggregate-through-lists
+    array-borrow-prefix-keys
+    slice-aggregate-through-lists-2
+    through-lists-requires
+    same-length
+    returns)

@@ -1,0 +1,160 @@
+// The search for a route: document 01, "A route". Where the list has no room for the steps, 25 is answered and the list stays as it was.
+ghost use mathlib.Core.Path.{_≡_};
+ghost use Prim.Native.Nat.{_*_, _/_, _≤_, _<_};
+ghost use lib.ListN.{length};
+ghost use Rattle.model.specs.Sectors.{sectors, cells};
+ghost use Rattle.model.specs.Portals.{portalGraph};
+ghost use Rattle.model.specs.Route.{throughPortals, routeOf};
+ghost use Rattle.model.specs.Store.{decode};
+ghost use Rattle.route.specs.EdgeTable.{Opened};
+ghost use Rattle.route.specs.Following.{Linked};
+ghost use Rattle.route.specs.Finding.{foundAnswer, foundInto, lastRoute, Paired, pairRoute};
+use crate::choice::choose;
+use crate::choice::fill_runs;
+use crate::edges::fill_edges;
+use crate::keys::keys_to;
+use crate::near::moves_to;
+use crate::near::portal_moves;
+use crate::path::least_path;
+use crate::steps::step_count;
+use crate::steps::write_last;
+use crate::steps::write_steps;
+use fields::sectors::sectors;
+use model::Measures;
+use model::Routed;
+
+// The route of one step, to a goal at these moves in the same sector.
+fn one_step(m: Measures, goal: usize, moves: u8, list: &mut [u8]) -> Routed
+    requires { ⌜ (1 ≤ m .rows) × (sectors m ≤ 100) × (goal < cells m) ⌝ }
+    ensures answer { λ r. ⌜ r ≡ foundAnswer (length (now (list .entry)) / 6) (lastRoute m goal moves) ⌝ }
+    ensures steps { λ _. ⌜ now (list .exit) ≡ foundInto (lastRoute m goal moves) (now (list .entry)) ⌝ }
+{
+    if list.len() / 6 < 1 {
+        return Routed::Refused(25);
+    }
+    write_last(m, goal / 100, goal, list);
+    Routed::Route {
+        steps: 1,
+        leg: 0,
+        run: moves as u32,
+    }
+}
+
+// The route from portal p to portal e and from there to the goal, with its leg and its last moves.
+fn through_pair(
+    st: &[u8],
+    m: Measures,
+    table: &[u32],
+    p: usize,
+    e: usize,
+    goal: usize,
+    leg: u8,
+    last: u8,
+    keys: &mut [u32],
+    list: &mut [u8],
+) -> Routed
+    requires { ⌜ Linked m (now st) (now table) (length (now keys)) × Paired (decode (now st)) p e ⌝ }
+    ensures answer { λ r. ⌜ r ≡ foundAnswer (length (now (list .entry)) / 6) (pairRoute (decode (now (st .entry))) goal p e leg last) ⌝ }
+    ensures steps { λ _. ⌜ now (list .exit) ≡ foundInto (pairRoute (decode (now (st .entry))) goal p e leg last) (now (list .entry)) ⌝ }
+{
+    keys_to(m, table, e, keys);
+    let mut nodes: [u16; 2000] = [0; 2000];
+    let n = least_path(st, m, table, keys, p, &mut nodes);
+    let steps = step_count(n);
+    if list.len() / 6 < steps {
+        return Routed::Refused(25);
+    }
+    write_steps(st, m, &nodes, n, goal, list);
+    Routed::Route {
+        steps: steps as u32,
+        leg: leg as u32,
+        run: keys[p] / 4096 + (last as u32),
+    }
+}
+
+// The route over portals, in a lent table of weights and a lent list of keys.
+fn through_lists(
+    st: &[u8],
+    m: Measures,
+    source: usize,
+    goal: usize,
+    table: &mut [u32],
+    keys: &mut [u32],
+    list: &mut [u8],
+) -> Routed
+    requires { ⌜ Opened m (now st) × (source < cells m) × (goal < cells m) × (length (now table) ≡ sectors m * 400) × (length (now keys) ≡ sectors m * 20) ⌝ }
+    ensures answer { λ r. ⌜ r ≡ foundAnswer (length (now (list .entry)) / 6) (throughPortals (decode (now (st .entry))) (portalGraph (decode (now (st .entry)))) source goal) ⌝ }
+    ensures steps { λ _. ⌜ now (list .exit) ≡ foundInto (throughPortals (decode (now (st .entry))) (portalGraph (decode (now (st .entry)))) source goal) (now (list .entry)) ⌝ }
+{
+    let mut legs: [u8; 20] = [255; 20];
+    let mut lasts: [u8; 20] = [255; 20];
+    let mut runs: [u32; 400] = [0; 400];
+    portal_moves(st, m, source, &mut legs);
+    portal_moves(st, m, goal, &mut lasts);
+    fill_edges(st, m, table);
+    let p = source / 100 * 20;
+    let q = goal / 100 * 20;
+    fill_runs(m, table, p, q, &legs, &lasts, keys, &mut runs);
+    let k = choose(&runs);
+    if 400 <= k {
+        return Routed::NoRoute;
+    }
+    let leg = legs[k / 20];
+    let last = lasts[k % 20];
+    through_pair(
+        st,
+        m,
+        table,
+        p + k / 20,
+        q + k % 20,
+        goal,
+        leg,
+        last,
+        keys,
+        list,
+    )
+}
+
+// Room for the weights of the largest hall.
+fn table_room() -> [u32; 40000] {
+    [0u32; 40000]
+}
+
+// Room for its keys.
+fn key_room() -> [u32; 2000] {
+    [0u32; 2000]
+}
+
+// The same in lists of its own.
+fn through_portals(st: &[u8], m: Measures, source: usize, goal: usize, list: &mut [u8]) -> Routed
+    requires { ⌜ Opened m (now st) × (source < cells m) × (goal < cells m) ⌝ }
+    ensures answer { λ r. ⌜ r ≡ foundAnswer (length (now (list .entry)) / 6) (throughPortals (decode (now (st .entry))) (portalGraph (decode (now (st .entry)))) source goal) ⌝ }
+    ensures steps { λ _. ⌜ now (list .exit) ≡ foundInto (throughPortals (decode (now (st .entry))) (portalGraph (decode (now (st .entry)))) source goal) (now (list .entry)) ⌝ }
+{
+    let mut table = table_room();
+    let mut keys = key_room();
+    let arcs = sectors(m) * 400;
+    let numbers = sectors(m) * 20;
+    through_lists(
+        st,
+        m,
+        source,
+        goal,
+        &mut table[..arcs],
+        &mut keys[..numbers],
+        list,
+    )
+}
+
+// The route from one cell to another, its steps at the front of a list.
+pub fn find_path(st: &[u8], m: Measures, source: usize, goal: usize, list: &mut [u8]) -> Routed
+    requires { ⌜ Opened m (now st) × (source < cells m) × (goal < cells m) ⌝ }
+    ensures answer { λ r. ⌜ r ≡ foundAnswer (length (now (list .entry)) / 6) (routeOf (decode (now (st .entry))) source goal) ⌝ }
+    ensures steps { λ _. ⌜ now (list .exit) ≡ foundInto (routeOf (decode (now (st .entry))) source goal) (now (list .entry)) ⌝ }
+{
+    let moves = moves_to(st, m, source, goal);
+    if moves == 255 {
+        return through_portals(st, m, source, goal, list);
+    }
+    one_step(m, goal, moves, list)
+}
