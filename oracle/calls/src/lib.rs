@@ -1,5 +1,7 @@
 //! Document 01's calls with plain answers, whoever gives them.
 
+pub mod best;
+
 /// First cell, last cell and side (0 N, 1 E, 2 S, 3 W) of a window.
 #[derive(Clone, Copy, PartialEq, Eq, Debug, Default)]
 pub struct Window {

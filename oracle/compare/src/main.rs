@@ -1,6 +1,5 @@
 //! Holds a router against the Rust of docs/src, on seeded cases.
 
-mod best;
 mod bytes;
 mod damaged;
 mod floors;

@@ -1,8 +1,8 @@
 //! Routes: each answer against both builds of the Rust.
 
+use calls::best::{self, Best};
 use calls::{Judge, PortalGraph, Routed, Step};
 
-use crate::best::{self, Best};
 use crate::report::Report;
 use crate::trial::Trial;
 
