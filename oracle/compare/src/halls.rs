@@ -98,10 +98,9 @@ fn compare_program(trial: &Trial, options: &Options, hall: &halls::Hall, report:
     let mut input = files::file(hall, &mut draw);
     let mut asked = vec![];
     for _ in 0..options.routes {
-        let (source, goal) = pairs::pair(&hall.floor, &mut draw);
-        asked.push((source, goal));
-        input.extend((source as u16).to_le_bytes());
-        input.extend((goal as u16).to_le_bytes());
+        let pair = pairs::pair(&hall.floor, &mut draw);
+        asked.push(pair);
+        pairs::put(pair, &mut input);
     }
     let spare = draw.below(4);
     input.extend(&[7; 3][..spare]);
