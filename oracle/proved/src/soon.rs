@@ -18,7 +18,11 @@ unsafe extern "C" fn hall_route(
     let list = unsafe { slice::from_raw_parts_mut(list, list_length) };
     let mut steps = vec![second::Step::default(); list_length / 6];
     let answer = second::route(store, source, goal, &mut steps);
-    for (entry, step) in list.chunks_exact_mut(6).zip(&steps).take(answer.steps as usize) {
+    for (entry, step) in list
+        .chunks_exact_mut(6)
+        .zip(&steps)
+        .take(answer.steps as usize)
+    {
         let window = step.window.map_or([4, 0, 0], |w| [w.side, w.first, w.last]);
         entry[..3].copy_from_slice(&[step.column, step.row, step.goal]);
         entry[3..].copy_from_slice(&window);
