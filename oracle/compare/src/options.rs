@@ -8,6 +8,7 @@ compare lent      lent stores: windows, changes, routes
 compare plans     plans
 compare damaged   damaged files and stores, and every argument out of range
 compare bytes     damaged files and stores, every lent byte against the second reading
+compare program   inputs of the program, whole and damaged, against the second reading
 compare floors    the floors that document 01 lists, and a few more
 compare selfcheck every sabotage is reported
 compare all       all of these, with one last line
@@ -21,7 +22,8 @@ compare replay    writes the list that the program floors replays, and the lines
   --threads T   1 or 2 (1)
   --into FOLDER where replay writes stdin and stdout (.)
   --sabotage K  spoils the answers on purpose: tie, midpoint, target, mark, windows,
-                leg, run, none, tail, refused, file, plan, program, check, spare";
+                leg, run, none, tail, refused, file, plan, program, check, spare,
+                room, behind, long";
 
 /// What is compared.
 #[derive(Clone, Copy, PartialEq, Eq)]
@@ -31,6 +33,7 @@ pub enum Command {
     Plans,
     Damaged,
     Bytes,
+    Program,
     Floors,
     Selfcheck,
     All,
@@ -44,12 +47,13 @@ pub enum Answering {
     Proved,
 }
 
-const COMMANDS: [(&str, Command); 9] = [
+const COMMANDS: [(&str, Command); 10] = [
     ("halls", Command::Halls),
     ("lent", Command::Lent),
     ("plans", Command::Plans),
     ("damaged", Command::Damaged),
     ("bytes", Command::Bytes),
+    ("program", Command::Program),
     ("floors", Command::Floors),
     ("selfcheck", Command::Selfcheck),
     ("all", Command::All),
