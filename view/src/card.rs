@@ -41,36 +41,18 @@ pub struct Card {
     pub answer: Answer,
 }
 
-/// Number, steps, leg and run of the route call, and its flat list of steps.
-///
-/// The second reading answers here until the proved library has the call.
-fn route(store: &[u8], source: usize, goal: usize, list: &mut [u8]) -> (u8, [u32; 3]) {
-    let mut steps = vec![second::Step::default(); list.len() / STEP];
-    let answer = second::route(store, source, goal, &mut steps);
-    for (entry, step) in list.chunks_exact_mut(STEP).zip(&steps) {
-        let window = step
-            .window
-            .map_or([NO_WINDOW, 0, 0], |w| [w.side, w.first, w.last]);
-        entry[..3].copy_from_slice(&[step.column, step.row, step.goal]);
-        entry[3..].copy_from_slice(&window);
-    }
-    (answer.number, [answer.steps, answer.leg, answer.run])
-}
-
 impl Card {
     /// The card of a pair.
     pub fn of(hall: &Hall, source: usize, goal: usize) -> Card {
         let mut list = vec![0; STEP * MOST_STEPS];
-        let answer = match route(&hall.store, source, goal, &mut list) {
-            (0, [0, ..]) => Answer::None,
-            (0, [count, leg, run]) => {
-                let steps = list
-                    .chunks_exact(STEP)
-                    .take(count as usize)
-                    .map(step)
-                    .collect();
-                Answer::Route { steps, leg, run }
-            }
+        let found = proved::route(&hall.store, source, goal, &mut list);
+        let answer = match (found.number, found.steps as usize) {
+            (0, 0) => Answer::None,
+            (0, count) => Answer::Route {
+                steps: list.chunks_exact(STEP).take(count).map(step).collect(),
+                leg: found.leg,
+                run: found.run,
+            },
             (number, _) => Answer::Refused(number),
         };
         Card {

@@ -1,5 +1,5 @@
 //! Floors as planners draw them, hall files, and pictures of a floor with its windows and
-//! a route's card. Windows and scaled costs come from the proved library.
+//! a route's card. Scaled costs, windows and the card come from the proved library.
 #![forbid(unsafe_code)]
 
 pub mod card;

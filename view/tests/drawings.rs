@@ -26,6 +26,13 @@ fn assert_settings(cases: &[(&str, &str)]) {
     }
 }
 
+/// Each of these rows in place of the n-th gives its problem.
+fn assert_rows<T: AsRef<str>>(cases: &[(usize, &str, T)]) {
+    for (n, row, expected) in cases {
+        assert_eq!(problem(&with_row(*n, row)), expected.as_ref());
+    }
+}
+
 fn floor(text: &str) -> Floor {
     read(text.as_bytes()).unwrap().floor
 }
@@ -180,9 +187,7 @@ fn wrong_rows() {
         (3, "", "line 3, column 1: an empty line inside a sector, after 2 of its 10 rows".to_string()),
         (3, "----------", "line 3, column 1: a ruling inside a sector, after 2 of its 10 rows".to_string()),
     ];
-    for (n, row, expected) in cases {
-        assert_eq!(problem(&with_row(n, row)), expected);
-    }
+    assert_rows(&cases);
 }
 
 #[test]
@@ -217,22 +222,21 @@ fn floors_cut_short() {
 
 #[test]
 fn wrong_marks() {
-    assert_eq!(
-        problem(&with_row(4, "..S...S...")),
-        "line 4, column 7: a second S: the first stands in line 4, column 3"
-    );
-    assert_eq!(
-        problem(&with_row(2, "|G........G|")),
-        "line 2, column 11: a second G: the first stands in line 2, column 2"
-    );
-    assert_eq!(
-        problem(&with_row(2, "..S.......")),
-        "line 2, column 3: an S without a G"
-    );
-    assert_eq!(
-        problem(&with_row(2, "..G.......")),
-        "line 2, column 3: a G without an S"
-    );
+    let cases = [
+        (
+            4,
+            "..S...S...",
+            "line 4, column 7: a second S: the first stands in line 4, column 3",
+        ),
+        (
+            2,
+            "|G........G|",
+            "line 2, column 11: a second G: the first stands in line 2, column 2",
+        ),
+        (2, "..S.......", "line 2, column 3: an S without a G"),
+        (2, "..G.......", "line 2, column 3: a G without an S"),
+    ];
+    assert_rows(&cases);
 }
 
 #[test]
