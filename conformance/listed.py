@@ -5,7 +5,8 @@ from floors import Draw, Hall, scatter
 
 READ = (
     "Read file into a lent base list: 10 under 5 bytes; 11 columns or rows outside 1 to 10; 12 scale outside 1 to 9; 13 count above "
-    "10,000; 14 length not 5 + 3 × count; 15 a floor number too large; 16 list length not 100 × sectors."
+    "10,000; 14 length not 5 + 3 × count; 15 a floor number too large; 16 list length not 100 × sectors. An accepted file gives its "
+    "columns, rows and scale and fills the list."
 )
 FILE = (
     "File: bytes columns, rows, scale; u16 count, low byte first; then two parallel arrays, u16 floor numbers and byte costs. "
@@ -38,6 +39,11 @@ PLAN = (
 )
 COLUMNS = "Columns and rows are each size over sector length, cut down."
 SCALE = "Scale is the radius over the unit, divided once in f32, then rounded up."
+
+# Only the corner cell of the last sector is open to its north and west.
+CORNER = ["hall 2 2 1", "blocked 301-310 320 330 340 350 360 370 380 390", "built"]
+# One cell of the first sector is alone behind the second window of its east side.
+ALONE = ["hall 2 1 1", "built", "lend scaled 9:255 19:255 28:255 39:255", "lend mark 0E:5"]
 
 # A hall of two open sectors side by side, which every call accepts.
 OPEN = ["hall 2 1 1", "built"]
@@ -197,6 +203,11 @@ GROUPS = {
         (ORDER_22, ["hall 3 1 1", "built", "lend mark 2W:5", "change 0 1"]),
         ("Other sectors keep theirs, stale or not.", ["hall 3 1 2", "blocked 100", "built", "change 17 255", "windows 2 room 20"]),
     ),
+    "lent_stores": floors_of(
+        ("a cell is joined to itself, blocked or not.", [*CORNER, "lend scaled 300:255", "route 300 109 room 3"]),
+        ("The i-th windows of facing sides have an edge of weight 1, for i below the smaller count.", [*ALONE, "lend mark 1W:1", "route 29 150 room 3"]),
+        ("The i-th windows of facing sides have an edge of weight 1, for i below the smaller count.", [*ALONE, "lend mark 1W:21", "route 29 150 room 3"]),
+    ),
     "windows": floors_of(
         ("Windows are the longest open runs, in order.", ["hall 2 1 1", "blocked 29 49 59 69 79 89 99", "build", "windows 0 room 20", "windows 1 room 20"]),
         ("Midpoint = (first + last) / 2, cut down.", ["hall 3 3 1", "build", "windows 4 room 4", "route 0 800"]),
@@ -208,7 +219,7 @@ GROUPS = {
     "corner_gates": floors_of(
         (
             "Of the path, steps are position 0, each even position, and the last, which has the goal and no window.",
-            ["hall 2 2 1", "blocked 301-310 320 330 340 350 360 370 380 390", "built", "route 300 109"],
+            [*CORNER, "route 300 109"],
         ),
     ),
     "pairs": floors_of(
