@@ -21,9 +21,9 @@ for router in rust second proved; do
 done
 
 if [ "${1:-}" = all ]; then
-    python3 wrong.py
-    python3 make.py "$scratch/cases"
+    python3 make/wrong.py
+    python3 make/make.py "$scratch/cases"
     diff -r "$scratch/cases" cases
 else
-    python3 wrong.py tie_by_index
+    python3 make/wrong.py tie_by_index
 fi

@@ -17,7 +17,7 @@ import subprocess
 import sys
 
 sys.path.insert(0, str(pathlib.Path(__file__).resolve().parent))
-import cases as form
+import form
 
 FOLDER = pathlib.Path(__file__).resolve().parent / "cases"
 SECONDS = 60

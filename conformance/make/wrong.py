@@ -9,7 +9,7 @@ An edit has the form of a must-fail edit, and says which group of cases must cat
     group: pairs
     rule: a sentence of document 01
 
-    python3 conformance/wrong.py [NAME...]     holds wrong readings, or all, against the cases: each must fail by its rule
+    python3 conformance/make/wrong.py [NAME...]     holds wrong readings, or all, against the cases: each must fail by its rule
 """
 import hashlib
 import os
@@ -18,11 +18,12 @@ import shutil
 import subprocess
 import sys
 
-sys.path.insert(0, str(pathlib.Path(__file__).resolve().parent))
-import cases as form
-
 FOLDER = pathlib.Path(__file__).resolve().parent
-TOP = FOLDER.parent
+CONFORMANCE = FOLDER.parent
+TOP = CONFORMANCE.parent
+sys.path.insert(0, str(CONFORMANCE))
+import form
+
 SECOND = TOP / "oracle" / "second"
 PROGRAMS = ("hallcalls", "hallroute")
 TARGET = TOP / "target" / "conformance"
@@ -95,14 +96,14 @@ def build(edit, target=TARGET):
 
 def programs(group):
     """By which program each interface is asked that tries all of a group: routes by both."""
-    cases = form.read(FOLDER / "cases" / f"{group}.txt")
+    cases = form.read(CONFORMANCE / "cases" / f"{group}.txt")
     asked = {"calls": all(case.by_calls() for case in cases), "hallroute": all(case.by_hallroute() for case in cases)}
     return [(interface, program) for interface, program in zip(asked, PROGRAMS) if asked[interface]]
 
 
 def fails_by_its_rule(edit, interface, program):
     """Whether a wrong reading fails and the rule that it breaks is named."""
-    command = [sys.executable, FOLDER / "run.py", interface, build(edit) / program]
+    command = [sys.executable, CONFORMANCE / "run.py", interface, build(edit) / program]
     held = subprocess.run(command, capture_output=True, text=True)
     lines = held.stdout.splitlines()
     named = any(line.startswith("broken rule: ") and edit.rule in line for line in lines)

@@ -1,5 +1,5 @@
 """Floors, changes and pairs drawn from a seed, as statements of cases."""
-import cases as form
+import form
 
 
 class Draw:

@@ -1,18 +1,18 @@
 #!/usr/bin/env python3
-"""Makes the conformance cases, cases/*.txt, from a seed.
+"""Makes the conformance cases, ../cases/*.txt, from seeds.
 
 Owed answers are those of the Rust of docs/src (compare answer --router rust). Drawn cases are kept because a wrong
 reading of document 01 (wrong/*.edit) answers them otherwise: for each wrong reading the shortest of those drawn.
-Listed cases come from listed.py. Each wrong reading must fail a case of its group, or nothing is written.
+Listed cases come from listed.py. The status is not 0 if a wrong reading passes all cases of its group.
 
-    python3 conformance/make.py [FOLDER]     writes into FOLDER, or over cases/
+    python3 conformance/make/make.py [FOLDER]     writes into FOLDER, or over ../cases
 """
 import pathlib
 import subprocess
 import sys
 
-sys.path.insert(0, str(pathlib.Path(__file__).resolve().parent))
-import cases as form
+sys.path.insert(0, str(pathlib.Path(__file__).resolve().parent.parent))
+import form
 import drawn
 import listed
 import run
