@@ -21,6 +21,8 @@ compare selfcheck
 compare floors --router proved
 compare halls --router proved --seed 201 --count 24000 --routes 25 --changes 8
 compare lent --router proved --seed 202 --count 8000 --routes 25 --changes 8
+compare halls --router proved --seed 207 --count 60000 --sectors 26 --routes 25 --changes 4
+compare lent --router proved --seed 208 --count 20000 --sectors 26 --routes 25 --changes 4
 compare plans --router proved --seed 203 --count 2000000
 compare damaged --router proved --seed 204 --count 20000
 compare bytes --router proved --seed 205 --count 100000

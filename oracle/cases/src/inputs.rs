@@ -10,71 +10,35 @@ use crate::pairs;
 /// The most bytes that the program reads.
 const MOST: usize = 65_536;
 
-/// How an input is made.
-#[derive(Clone, Copy, PartialEq, Eq, Debug)]
-pub enum Kind {
-    Whole,
-    NoPairs,
-    SpareBytes,
-    NumbersTooLarge,
-    AsLongAsCanBe,
-    TooLong,
-    Cut,
-    OtherMeasures,
-    OtherCount,
-    CellTooLarge,
-    Damaged,
-    Noise,
-}
+/// Turns a whole input for a floor into another one.
+type Turn = fn(&mut Vec<u8>, &Floor, &mut Draw);
 
-const KINDS: [(usize, Kind); 12] = [
-    (38, Kind::Whole),
-    (4, Kind::NoPairs),
-    (10, Kind::SpareBytes),
-    (8, Kind::NumbersTooLarge),
-    (1, Kind::AsLongAsCanBe),
-    (3, Kind::TooLong),
-    (7, Kind::Cut),
-    (7, Kind::OtherMeasures),
-    (7, Kind::OtherCount),
-    (5, Kind::CellTooLarge),
-    (7, Kind::Damaged),
-    (3, Kind::Noise),
+/// Kinds of inputs: how often, a name, and how they are made of whole ones.
+const KINDS: [(usize, (&str, Turn)); 12] = [
+    (38, ("whole", |_, _, _| {})),
+    (4, ("without pairs", without_pairs)),
+    (10, ("with spare bytes", with_spare_bytes)),
+    (8, ("with numbers too large", with_numbers_too_large)),
+    (1, ("as long as can be", as_long_as_can_be)),
+    (3, ("too long", too_long)),
+    (7, ("cut", cut)),
+    (7, ("with other measures", with_other_measures)),
+    (7, ("with another count", with_another_count)),
+    (5, ("with a cell too large", with_a_cell_too_large)),
+    (7, ("damaged", |input, _, draw| damage::damage(input, draw))),
+    (3, ("of any bytes", of_any_bytes)),
 ];
 
-/// The input of this seed and number.
-pub fn input(seed: u64, case: u64) -> (Kind, Vec<u8>) {
+/// The input of this seed and number, and the name of its kind.
+pub fn input(seed: u64, case: u64) -> (&'static str, Vec<u8>) {
     let hall = halls::hall(seed, case);
     let mut draw = Draw::new(seed, case, Use::Input);
-    let kind = draw.weighted(&KINDS);
+    let (name, turn) = draw.weighted(&KINDS);
     let mut input = files::file(&hall, &mut draw);
-    if kind != Kind::NoPairs {
-        let count = draw.below(13);
-        extend(&mut input, &hall.floor, count, &mut draw);
-    }
-    make(kind, &mut input, &hall.floor, &mut draw);
-    (kind, input)
-}
-
-/// Turns a whole input into one of this kind.
-fn make(kind: Kind, input: &mut Vec<u8>, floor: &Floor, draw: &mut Draw) {
-    match kind {
-        Kind::Whole | Kind::NoPairs => {}
-        Kind::SpareBytes => input.extend(&[7; 3][..draw.from_to(1, 3)]),
-        Kind::NumbersTooLarge => too_large(input, floor, draw),
-        Kind::AsLongAsCanBe => {
-            let left = MOST - input.len();
-            extend(input, floor, left / 4, draw);
-            input.resize(MOST - draw.below(3), 0);
-        }
-        Kind::TooLong => input.resize(MOST + draw.pick(&[1, 1, 2, 3, 4, 4_000, MOST]), 0),
-        Kind::Cut => input.truncate(draw.below(input.len())),
-        Kind::OtherMeasures => input[draw.below(3)] = draw.pick(&[0, 1, 9, 10, 11, 255]),
-        Kind::OtherCount => other_count(input, draw),
-        Kind::CellTooLarge => cell_too_large(input, floor, draw),
-        Kind::Damaged => damage::damage(input, draw),
-        Kind::Noise => *input = (0..draw.below(60)).map(|_| draw.bits() as u8).collect(),
-    }
+    let count = draw.below(13);
+    extend(&mut input, &hall.floor, count, &mut draw);
+    turn(&mut input, &hall.floor, &mut draw);
+    (name, input)
 }
 
 fn extend(input: &mut Vec<u8>, floor: &Floor, count: usize, draw: &mut Draw) {
@@ -83,8 +47,21 @@ fn extend(input: &mut Vec<u8>, floor: &Floor, count: usize, draw: &mut Draw) {
     }
 }
 
+/// How many entries the file of an input has.
+fn count(input: &[u8]) -> u16 {
+    u16::from_le_bytes([input[3], input[4]])
+}
+
+fn without_pairs(input: &mut Vec<u8>, _: &Floor, draw: &mut Draw) {
+    input.truncate(5 + 3 * usize::from(count(input)) + draw.pick(&[0, 0, 0, 1, 2, 3]));
+}
+
+fn with_spare_bytes(input: &mut Vec<u8>, _: &Floor, draw: &mut Draw) {
+    input.extend(&[7; 3][..draw.from_to(1, 3)]);
+}
+
 /// A few pairs more with numbers at and behind the end of the floor, and one on it.
-fn too_large(input: &mut Vec<u8>, floor: &Floor, draw: &mut Draw) {
+fn with_numbers_too_large(input: &mut Vec<u8>, floor: &Floor, draw: &mut Draw) {
     let cells = floor.costs.len();
     for _ in 0..4 {
         let inside = draw.below(cells);
@@ -95,25 +72,44 @@ fn too_large(input: &mut Vec<u8>, floor: &Floor, draw: &mut Draw) {
     extend(input, floor, 1, draw);
 }
 
-/// Another count of the file's entries.
-fn other_count(input: &mut [u8], draw: &mut Draw) {
-    let count = u16::from_le_bytes([input[3], input[4]]);
-    let near = [count.wrapping_sub(1), count + 1, count + 2];
-    let far = [0, 10_000, 10_001, 20_000, 65_535];
-    let other = if draw.percent(60) {
-        draw.pick(&near)
-    } else {
-        draw.pick(&far)
-    };
+fn as_long_as_can_be(input: &mut Vec<u8>, floor: &Floor, draw: &mut Draw) {
+    let left = MOST - input.len();
+    extend(input, floor, left / 4, draw);
+    input.resize(MOST - draw.below(3), 0);
+}
+
+fn too_long(input: &mut Vec<u8>, _: &Floor, draw: &mut Draw) {
+    input.resize(MOST + draw.pick(&[1, 1, 2, 3, 4, 4_000, MOST]), 0);
+}
+
+fn cut(input: &mut Vec<u8>, _: &Floor, draw: &mut Draw) {
+    input.truncate(draw.below(input.len()));
+}
+
+fn with_other_measures(input: &mut Vec<u8>, _: &Floor, draw: &mut Draw) {
+    input[draw.below(3)] = draw.pick(&[0, 1, 9, 10, 11, 255]);
+}
+
+/// The count next to the right one, or one at and beyond what may be.
+fn with_another_count(input: &mut Vec<u8>, _: &Floor, draw: &mut Draw) {
+    let count = count(input);
+    let near = draw.pick(&[count.wrapping_sub(1), count + 1, count + 2]);
+    let far = draw.pick(&[0, 10_000, 10_001, 20_000, 65_535]);
+    let other = draw.weighted(&[(6, near), (4, far)]);
     input[3..5].copy_from_slice(&other.to_le_bytes());
 }
 
-/// A floor number too large in one of the file's entries, or an input without them.
-fn cell_too_large(input: &mut [u8], floor: &Floor, draw: &mut Draw) {
-    let count = usize::from(u16::from_le_bytes([input[3], input[4]]));
+/// A floor number too large in one of the file's entries, if it has any.
+fn with_a_cell_too_large(input: &mut Vec<u8>, floor: &Floor, draw: &mut Draw) {
+    let (count, cells) = (usize::from(count(input)), floor.costs.len());
     if count > 0 {
         let at = 5 + 2 * draw.below(count);
-        let number = draw.pick(&[floor.costs.len(), floor.costs.len() + 1, 65_535]);
-        input[at..at + 2].copy_from_slice(&(number as u16).to_le_bytes());
+        let number = draw.pick(&[cells, cells + 1, 65_535]) as u16;
+        input[at..at + 2].copy_from_slice(&number.to_le_bytes());
     }
+}
+
+fn of_any_bytes(input: &mut Vec<u8>, _: &Floor, draw: &mut Draw) {
+    input.truncate(draw.below(60));
+    input.fill_with(|| draw.bits() as u8);
 }

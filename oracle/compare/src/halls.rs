@@ -15,6 +15,9 @@ use crate::trial::{TAIL, Trial};
 /// A hall built by all sides from the same base costs.
 pub fn built(router: &dyn Router, options: &Options, case: u64, report: &mut Report) {
     let hall = halls::hall(options.seed, case);
+    if hall.sectors() < options.sectors {
+        return;
+    }
     let (measures, base) = (hall.measures(), &hall.floor.costs);
     let mut store = vec![0x5a; 4 + 208 * hall.sectors()];
     store[..2].copy_from_slice(&measures[..2]);
@@ -47,6 +50,9 @@ pub fn built(router: &dyn Router, options: &Options, case: u64, report: &mut Rep
 
 /// A lent store whose costs and marks may disagree, taken in by all sides.
 pub fn lent(router: &dyn Router, options: &Options, case: u64, report: &mut Report) {
+    if halls::hall(options.seed, case).sectors() < options.sectors {
+        return;
+    }
     let (mut store, floor) = stores::store(options.seed, case);
     let standin = Standin::from_store(&store);
     let petgraph = Petgraph::from_store(&store);

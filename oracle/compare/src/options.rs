@@ -21,6 +21,7 @@ compare hallroute answers as the program hallroute does
   --count N     how many cases (100)
   --routes M    routes on each hall before its changes, and again after them (5)
   --changes K   changes of each hall (5)
+  --sectors N   halls and lent: leaves out cases of fewer sectors (1)
   --threads T   1 or 2 (1)
   --into FOLDER where replay writes stdin and stdout (.)
   --sabotage K  spoils the answers on purpose: tie, midpoint, target, mark, windows,
@@ -76,6 +77,7 @@ pub struct Options {
     pub count: u64,
     pub routes: usize,
     pub changes: usize,
+    pub sectors: usize,
     pub threads: usize,
     pub sabotage: Option<Sabotage>,
     pub into: String,
@@ -91,6 +93,7 @@ impl Options {
             count: 100,
             routes: 5,
             changes: 5,
+            sectors: 1,
             threads: 1,
             sabotage: None,
             into: ".".into(),
@@ -120,6 +123,7 @@ impl Options {
             "--count" => self.count = number()?,
             "--routes" => self.routes = number()? as usize,
             "--changes" => self.changes = number()? as usize,
+            "--sectors" => self.sectors = number()? as usize,
             "--threads" => self.threads = number()?.max(1) as usize,
             "--into" => self.into = value.into(),
             "--sabotage" => self.sabotage = Some(Sabotage::named(value)?),

@@ -12,7 +12,7 @@ pub fn compare(router: &dyn Router, options: &Options, case: u64, report: &mut R
     let (kind, input) = inputs::input(options.seed, case);
     let owed = Second.hallroute(&input);
     report.count("inputs of the program", 1);
-    report.count(format!("inputs of kind {kind:?}"), 1);
+    report.count(format!("inputs {kind}"), 1);
     let text = String::from_utf8_lossy(&owed);
     if text.is_empty() {
         report.count("inputs with nothing to print", 1);
@@ -29,7 +29,7 @@ pub fn compare(router: &dyn Router, options: &Options, case: u64, report: &mut R
             case,
             changes: 0,
             routes: 0,
-            text: format!("{kind:?} of {length} bytes: {given:?}, second {owed:?}"),
+            text: format!("input {kind}, {length} bytes: {given:?}, second {owed:?}"),
         });
     }
 }
