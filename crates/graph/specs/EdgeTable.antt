@@ -68,6 +68,7 @@ table-graph h = λ i. record {
 abbrev pub Filled : Hall → ℕ → List ℕ → Type 0
 Filled h n t = Tabled (λ e. portalGraph h .weight e) (sectors (h .measures) * 400) n t
 
+-- a place named otherwise
 pub filled-at : {f : ℕ → ℕ} {n a b : ℕ} {t : List ℕ} → Tabled f n a t → a ≡ b → Tabled f n b t
 filled-at {f} {n} {t = t} r e = subst (λ (i : ℕ). Tabled f n i t) e r
 
@@ -75,7 +76,7 @@ pub filled-all : (h : Hall) {n : ℕ} {t : List ℕ} → Filled h n t → sector
 unfolding edgeTable
 filled-all h f l = tabled-all f l
 
--- the first c places of number p hold what g says: if the list was as a rule has it up to them, and g is that rule there, then it is as the rule has it up to their end
+-- the first c places of number p hold what g says: a list that was filled up to them by a rule, which g follows there, is filled up to their end
 pub record Row (g : ℕ → ℕ) (p c : ℕ) (t₀ t : List ℕ) : Type 0 where
   pub within : c ≤ 20
   pub long : length t ≡ length t₀

@@ -5,7 +5,7 @@ use mathlib.Core.Path.{_≡_, refl, sym, ap, _∙_}
 use mathlib.Core.Bool.{Bool, true, false, _&&_}
 use mathlib.Core.List.{List}
 use lib.Dec.{ltb, eqb}
-use lib.ListN.{length, getD}
+use lib.ListN.{length, getD, take, drop}
 use lib.Seq.{ext-getD}
 use borrow.Author.Tests.{lt-ltb, eq-eqb, ne-eqb}
 use Rattle.laws.specs.Fold.{pick}
@@ -118,7 +118,7 @@ module _ (h : Hall) (p c : ℕ) (low : c < 20) (inside : p * 20 + c < sectors (h
   weight-by fits e f g o = rw (place-mid h p g c low, f, o, inner-by h fits (movesFrom h p) (p / 20 * 20 + c)) (sym (weight-is ∙ rw e refl))
 
 -- the scaled costs of a sector, where the store has them
-pub costs-read : {m : Measures} {st : List ℕ} → Opened m st → (s : ℕ) → s < sectors m → region (4 + cells m + s * 100) 100 st ≡ costsOf (decode st .scaled) s
+costs-read : {m : Measures} {st : List ℕ} → Opened m st → (s : ℕ) → s < sectors m → region (4 + cells m + s * 100) 100 st ≡ costsOf (decode st .scaled) s
 costs-read {m} {st} o s = rw (o .read) (λ l.
     let n = measuresAt st in
     let long : length (decode st .scaled) ≡ cells n = unfold decode in decode-laid st (o .passes .room) .scaled-cells in
@@ -131,3 +131,8 @@ costs-read {m} {st} o s = rw (o .read) (λ l.
   where
     sum : (a b i : ℕ) → 4 + a + b + i ≡ 4 + a + (b + i)
     sum a b i = omega arith
+
+-- the moves from cell i of sector s, over what the store has from place 4 + n + 100 × s on
+pub moves-read : {m : Measures} {st : List ℕ} → Opened m st → (s k n i : ℕ) {x : List ℕ} → s < sectors m → x ≡ moves (take k (drop (4 + n + s * 100) st)) i → k ≡ 100 → n ≡ cells m → x ≡ moves (costsOf (decode st .scaled) s) i
+unfolding region
+moves-read o s k n i l e a b = e ∙ rw (a, b) (ap (λ (c : List ℕ). moves c i) (costs-read o s l))

@@ -3,7 +3,7 @@
 ghost use mathlib.Core.Path.{_≡_};
 ghost use Prim.Native.Nat.{ℕ, _*_, _/_, _≤_, _<_};
 ghost use lib.ListN.{length, set, replicate};
-ghost use Rattle.laws.specs.Graph.{Sound, BothWays};
+ghost use Rattle.laws.specs.Graph.{BothWays};
 ghost use Rattle.laws.specs.LeastCosts.{relaxed};
 ghost use Rattle.laws.specs.Waiting.{Waiting, awaited, work};
 ghost use Rattle.model.specs.Sectors.{sectors};

@@ -1,6 +1,6 @@
 -- `fill_sector` fills the table number by number. The loop's invariant: the weights of the sector's numbers before place c stand in it.
 use native.Mathlib.Omega.{arith}
-use mathlib.Core.Path.{_≡_, refl, sym, ap, _∙_}
+use mathlib.Core.Path.{refl, sym, ap, _∙_}
 use Prim.Native.Nat.{ℕ, _+_, _-_, _*_, _≤_}
 use denote.Ref.{now}
 use borrow.Author.Needs.{needs}

@@ -1,14 +1,9 @@
 -- `moves_from` spreads over the sector's costs, where the store has them.
-use Prim.Native.Nat.{ℕ, _+_, _*_, _/_}
-use native.Mathlib.Nat.{add-sub-cancel-left}
+use Prim.Native.Nat.{_+_, _-_, _*_, _/_}
 use native.Mathlib.Omega.{arith}
-use mathlib.Core.Path.{ap, _∙_}
-use mathlib.Core.List.{List}
-use Rattle.laws.specs.Region.{region}
 use Rattle.model.specs.Sectors.{sectorOf, placeOf}
-use Rattle.model.specs.Moves.{moves}
 use Rattle.graph.specs.Reading.{few-of}
-use Rattle.graph.specs.Weights.{costs-read}
+use Rattle.graph.specs.Weights.{moves-read}
 use borrow.Author.Needs.{needs}
 use Rattle.graph.proofs.near.moves_from.Statement.{statement}
 use Rattle.graph.proofs.near.moves_from.Tie as tie
@@ -47,13 +42,12 @@ same-length : tie.Need-same-length
 same-length c = search needs
 
 returns : tie.Need-returns
-unfolding region
 returns c =
     let call = c .before .before in
     let at = call .before .before .before in
     let start = S at in
     let from = 4 + at .cells .result + start .args .x / 100 * 100 in
-    call .spread .ensures ∙ rw (add-sub-cancel-left from 100, at .cells .ensures) (ap (λ (l : List ℕ). moves l (placeOf (start .args .x))) (costs-read (start .pre .0) (sectorOf (start .args .x)) (omega (arith, start .pre))))
+    moves-read (start .pre .0) (sectorOf (start .args .x)) (from + 100 - from) (at .cells .result) (placeOf (start .args .x)) (omega (arith, start .pre)) (call .spread .ensures) (omega arith) (at .cells .ensures)
 
 pub moves-from-spec : {M : Type 1} → statement M
 moves-from-spec =
