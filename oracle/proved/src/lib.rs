@@ -1,7 +1,6 @@
 //! The calls that crate `hall_c` exports, and the program `hallroute`, behind safe functions.
 
 mod program;
-mod soon;
 
 pub use program::hallroute;
 
