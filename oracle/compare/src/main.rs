@@ -1,12 +1,12 @@
 //! Holds a router against the Rust of docs/src, on seeded cases.
 
-mod best;
 mod bytes;
 mod damaged;
 mod floors;
 mod halls;
 mod options;
 mod plans;
+mod program;
 mod proved_router;
 mod refusals;
 mod replay;
@@ -50,13 +50,14 @@ fn main() -> ExitCode {
 }
 
 /// The parts of a whole comparison.
-const PARTS: [Command; 6] = [
+const PARTS: [Command; 7] = [
     Command::Floors,
     Command::Halls,
     Command::Lent,
     Command::Plans,
     Command::Damaged,
     Command::Bytes,
+    Command::Program,
 ];
 
 /// Runs every part and the self-check, with one line about all of it at the end.
@@ -64,7 +65,8 @@ fn all(options: &Options) -> bool {
     let mut whole = Report::default();
     for command in PARTS {
         // The second reading is not held against itself.
-        if command == Command::Bytes && options.router == Answering::Second {
+        let by_second = [Command::Bytes, Command::Program].contains(&command);
+        if by_second && options.router == Answering::Second {
             continue;
         }
         let part = options.part(command, options.count);
@@ -100,6 +102,7 @@ fn run_with(router: &dyn Router, options: &Options) -> Report {
         Command::Plans => plans::compare(router, options, case, report),
         Command::Damaged => damaged::compare(router, options, case, report),
         Command::Bytes => bytes::compare(router, options, case, report),
+        Command::Program => program::compare(router, options, case, report),
         Command::Floors => floors::compare(router, case, report),
         Command::Selfcheck | Command::All | Command::Replay => {
             unreachable!("these have no cases of their own")

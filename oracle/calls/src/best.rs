@@ -4,7 +4,7 @@
 use std::cmp::Reverse;
 use std::collections::BinaryHeap;
 
-use calls::{Judge, PortalGraph, Step};
+use crate::{Judge, PortalGraph, Step};
 
 /// The chosen pair of a route: leg, run, and start and end portal, which a route
 /// inside one sector has not.
