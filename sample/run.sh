@@ -1,9 +1,12 @@
 #!/usr/bin/env bash
-# Routes the sample halls: each file is a hall and pairs of source and goal, each line printed is a card.
+# Routes the sample halls with the proved program: each file is a hall and pairs of source and goal, each line printed is a card.
 set -euo pipefail
 cd "$(dirname "$0")/.."
-cargo build --quiet --release --offline --manifest-path oracle/second/Cargo.toml --target-dir oracle/target/second
+if ! said=$(rt check hallroute); then
+    echo "$said" >&2
+    exit 1
+fi
 for hall in sample/*.hall; do
     echo "$hall"
-    oracle/target/second/release/hallroute <"$hall" | sed 's/^/  /'
+    target/bin/hallroute <"$hall" | sed 's/^/  /'
 done

@@ -1,4 +1,4 @@
-// Halls: a hall file is read into base costs and built in a store, costs are changed, and windows are listed.
+// Halls: a hall file is read into base costs and built in a store, costs are changed, windows are listed, and routes are found.
 ghost use Prim.Native.Nat.{_<_};
 ghost use Rattle.io.specs.Counts.{Counts};
 use crate::plans::print_measured;
@@ -7,10 +7,12 @@ use fields::sectors::cells;
 use hall::build::build;
 use hall::change::change;
 use hall::file::read_file;
+use hall::routing::route;
 use hall::windows::windows;
 use model::Listed;
 use model::Measured;
 use model::Measures;
+use model::Routed;
 
 // The largest prime below 2 to the 32nd.
 const PRIME: u64 = 4294967291;
@@ -145,6 +147,36 @@ pub fn replay_windows(store: &[u8]) -> bool {
     let mut list = [7u8; 60];
     print_number(b"windows of ", sector);
     print_listed(windows(store, sector, &mut list));
+    print_lent(&list);
+    true
+}
+
+fn print_routed(answer: Routed) {
+    match answer {
+        Routed::Route { steps, leg, run } => {
+            print_number(b" gives ", steps as usize);
+            print_number(b" ", leg as usize);
+            print_number(b" ", run as usize);
+        }
+        Routed::NoRoute => {
+            io::write_all(1, b" is none");
+        }
+        Routed::Refused(number) => print_number(b" is ", wide(number)),
+    }
+}
+
+// An entry: source and goal in two bytes each. The list has room for three steps.
+pub fn replay_route(store: &[u8]) -> bool {
+    let mut asked = [0u8; 4];
+    if io::read_full(0, &mut asked) < 4 {
+        return false;
+    }
+    let source = wide(asked[0]) + 256 * wide(asked[1]);
+    let goal = wide(asked[2]) + 256 * wide(asked[3]);
+    let mut list = [7u8; 18];
+    print_number(b"route of ", source);
+    print_number(b" to ", goal);
+    print_routed(route(store, source, goal, &mut list));
     print_lent(&list);
     true
 }

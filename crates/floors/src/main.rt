@@ -14,6 +14,7 @@ fn replay(store: &mut [u8]) -> bool {
         b'f' => halls::replay_file(store),
         b'c' => halls::replay_change(store),
         b'w' => halls::replay_windows(store),
+        b'r' => halls::replay_route(store),
         _ => false,
     }
 }

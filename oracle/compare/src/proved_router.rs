@@ -91,7 +91,7 @@ fn window([first, last, side]: [u8; 3]) -> Window {
 }
 
 /// Side 4 says that there is no window, and then both cells are 0.
-fn flat_step(step: &Step) -> [u8; 6] {
+pub fn flat_step(step: &Step) -> [u8; 6] {
     let window = step.window.map_or([4, 0, 0], |w| [w.side, w.first, w.last]);
     let [side, first, last] = window;
     [step.column, step.row, step.goal, side, first, last]

@@ -68,7 +68,7 @@ fn measures(columns: u8, rows: u8, scale: u8) -> Result<(), u8> {
     refuse(!(1..=9).contains(&scale), 12)
 }
 
-fn refuse(condition: bool, number: u8) -> Result<(), u8> {
+pub fn refuse(condition: bool, number: u8) -> Result<(), u8> {
     if condition { Err(number) } else { Ok(()) }
 }
 

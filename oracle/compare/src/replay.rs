@@ -7,12 +7,14 @@ use std::path::Path;
 use calls::{Judge, Measures};
 use cases::draw::{Draw, Use};
 use cases::floor::Floor;
-use cases::{changes, damage, files, halls};
+use cases::{changes, damage, files, halls, pairs};
 use reference_standin::Hall as Standin;
 
 use crate::options::Options;
 use crate::plans;
+use crate::proved_router::flat_step;
 use crate::refusals;
+use crate::routes;
 
 /// 01: "Unit 1, radius 1: size 109 gives 10 columns, 110 is 9".
 const NOT_STARRED: [[f32; 4]; 2] = [[109.0, 10.0, 1.0, 1.0], [110.0, 10.0, 1.0, 1.0]];
@@ -20,8 +22,12 @@ const NOT_STARRED: [[f32; 4]; 2] = [[109.0, 10.0, 1.0, 1.0], [110.0, 10.0, 1.0, 
 /// The most sectors of a hall that is replayed.
 const SECTORS: usize = 6;
 
-/// The changes of a hall.
+/// The changes of a hall, and its routes before them and after them.
 const CHANGES: usize = 6;
+const ROUTES: usize = 5;
+
+/// The steps that the list of a route has room for.
+const ROOM: usize = 3;
 
 /// The largest prime below 2 to the 32nd.
 const PRIME: u64 = 4_294_967_291;
@@ -99,9 +105,12 @@ impl Replay {
             self.keep(&hall);
             let line = format!("build is 0, lent {}\n", sum(&self.store));
             self.owed.push_str(&line);
-            self.windows(&hall, base.len() / 100);
-            self.changes(&mut hall, base.len() / 100, &mut draw);
-            self.windows(&hall, base.len() / 100);
+            let sectors = base.len() / 100;
+            self.windows(&hall, sectors);
+            self.routes(&hall, sectors, &mut Draw::new(seed, case, Use::Pairs));
+            self.changes(&mut hall, sectors, &mut draw);
+            self.windows(&hall, sectors);
+            self.routes(&hall, sectors, &mut Draw::new(seed, case, Use::LaterPairs));
         }
     }
 
@@ -121,6 +130,24 @@ impl Replay {
             self.keep(hall);
             let lent = sum(&self.store);
             let line = format!("change of {number} to {cost} is {owed}, lent {lent}\n");
+            self.owed.push_str(&line);
+        }
+    }
+
+    /// Some routes, now and then of a floor number too large.
+    fn routes(&mut self, hall: &Standin, sectors: usize, draw: &mut Draw) {
+        for _ in 0..ROUTES {
+            let mut pair = pairs::pair(&self.floor(sectors), draw);
+            match draw.below(20) {
+                0 => pair.0 += 100 * sectors,
+                1 => pair.1 += 100 * sectors,
+                _ => {}
+            }
+            self.asked.push(b'r');
+            pairs::put(pair, &mut self.asked);
+            let (answer, list) = routed(hall, 100 * sectors, pair);
+            let ((source, goal), lent) = (pair, sum(&list));
+            let line = format!("route of {source} to {goal} {answer}, lent {lent}\n");
             self.owed.push_str(&line);
         }
     }
@@ -165,6 +192,21 @@ fn room(file: &[u8]) -> usize {
         [columns, rows, ..] => (100 * usize::from(*columns) * usize::from(*rows)).min(10_000),
         _ => 0,
     }
+}
+
+/// What is owed for a route, and the lent list after it, six bytes a step.
+fn routed(hall: &Standin, cells: usize, pair: (usize, usize)) -> (String, Vec<u8>) {
+    let mut list = vec![7; 6 * ROOM];
+    let answer = match routes::owed(hall, &hall.portal_graph(), cells, pair) {
+        Err(number) => format!("is {number}"),
+        Ok(None) => "is none".into(),
+        Ok(Some((steps, _))) if steps.len() > ROOM => "is 25".into(),
+        Ok(Some((steps, best))) => {
+            list.splice(..6 * steps.len(), steps.iter().flat_map(flat_step));
+            format!("gives {} {} {}", steps.len(), best.leg, best.run)
+        }
+    };
+    (answer, list)
 }
 
 /// All bytes of a list as one number.

@@ -3,6 +3,7 @@
 use calls::best::{self, Best};
 use calls::{Judge, PortalGraph, Routed, Step};
 
+use crate::refusals::refuse;
 use crate::report::Report;
 use crate::trial::{OLD_WINDOW, Trial};
 
@@ -16,6 +17,19 @@ pub const OLD_STEP: Step = Step {
     goal: 203,
     window: Some(OLD_WINDOW),
 };
+
+/// The Rust's steps with leg and run, none, or 01's number where it panics.
+pub fn owed<J: Judge>(
+    judge: &J,
+    graph: &PortalGraph,
+    cells: usize,
+    (source, goal): (usize, usize),
+) -> Result<Option<(Vec<Step>, Best)>, u8> {
+    refuse(source >= cells, 23)?;
+    refuse(goal >= cells, 24)?;
+    let best = best::best(judge, graph, source, goal);
+    Ok(judge.route(source, goal).zip(best))
+}
 
 impl Trial<'_> {
     /// One route: the router's against the stand-in's step by step, with leg and

@@ -1,6 +1,8 @@
 //! The program's lines, from the Rust's answers.
 
-use calls::{Judge, Step, best};
+use calls::{Judge, Step};
+
+use crate::routes;
 
 /// The lines for these pairs on an accepted hall, and `cut` for spare bytes.
 pub fn lines<J: Judge>(
@@ -12,17 +14,11 @@ pub fn lines<J: Judge>(
     let graph = judge.portal_graph();
     let mut text = String::new();
     for (source, goal) in pairs {
-        let answer = if *source >= sectors * 100 {
-            "no 23".into()
-        } else if *goal >= sectors * 100 {
-            "no 24".into()
-        } else {
-            let steps = judge.route(*source, *goal);
-            let best = best::best(judge, &graph, *source, *goal);
-            match (steps, best) {
-                (Some(steps), Some(best)) => route(&steps, best.leg, best.run),
-                _ => "none".into(),
-            }
+        let owed = routes::owed(judge, &graph, sectors * 100, (*source, *goal));
+        let answer = match owed {
+            Err(number) => format!("no {number}"),
+            Ok(None) => "none".into(),
+            Ok(Some((steps, best))) => route(&steps, best.leg, best.run),
         };
         text.push_str(&format!("{source} {goal} {answer}\n"));
     }
