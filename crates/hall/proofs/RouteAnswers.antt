@@ -14,7 +14,7 @@ use Rattle.model.specs.Sectors.{cells}
 use Rattle.model.specs.Store.{measuresAt, decode}
 use Rattle.model.specs.Route.{routeOf}
 use Rattle.model.specs.Calls.{orElse, ifAccepted, checkNumber, foundNumber, routeNumber, routed, routeAnswer, routeFlat}
-use Rattle.route.specs.EdgeTable.{Opened}
+use Rattle.graph.specs.EdgeTable.{Opened}
 use Rattle.route.specs.Finding.{roomNumber, foundAnswer, foundInto}
 use Rattle.hall.proofs.Passed.{refused-first, none, passed}
 

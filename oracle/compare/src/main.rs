@@ -1,5 +1,6 @@
 //! Holds a router against the Rust of docs/src, on seeded cases.
 
+mod answer;
 mod bytes;
 mod damaged;
 mod floors;
@@ -12,6 +13,7 @@ mod refusals;
 mod replay;
 mod report;
 mod routes;
+mod rust_router;
 mod sabotage;
 mod second_router;
 mod text;
@@ -23,6 +25,7 @@ use calls::Router;
 use options::{Answering, Command, Options};
 use proved_router::Proved;
 use report::Report;
+use rust_router::Rust;
 use sabotage::Sabotaged;
 use second_router::Second;
 
@@ -41,6 +44,8 @@ fn main() -> ExitCode {
         Command::All => all(&options),
         Command::Selfcheck => sabotage::selfcheck(&options),
         Command::Replay => replay::write(&options),
+        Command::Answer => answer::lines(router(&options)).is_ok(),
+        Command::Hallroute => answer::hallroute(router(&options)).is_ok(),
         _ => {
             let report = run(&options);
             report.print(&options);
@@ -83,12 +88,18 @@ fn all(options: &Options) -> bool {
     checked && whole.differences.is_empty()
 }
 
-/// Runs all cases that the options ask for.
-fn run(options: &Options) -> Report {
-    let router: &dyn Router = match options.router {
+/// Whoever the options ask to answer.
+fn router(options: &Options) -> &'static dyn Router {
+    match options.router {
         Answering::Second => &Second,
         Answering::Proved => &Proved,
-    };
+        Answering::Rust => &Rust,
+    }
+}
+
+/// Runs all cases that the options ask for.
+fn run(options: &Options) -> Report {
+    let router = router(options);
     match options.sabotage {
         Some(kind) => run_with(&Sabotaged { kind, router }, options),
         None => run_with(router, options),
@@ -104,7 +115,11 @@ fn run_with(router: &dyn Router, options: &Options) -> Report {
         Command::Bytes => bytes::compare(router, options, case, report),
         Command::Program => program::compare(router, options, case, report),
         Command::Floors => floors::compare(router, case, report),
-        Command::Selfcheck | Command::All | Command::Replay => {
+        Command::Selfcheck
+        | Command::All
+        | Command::Replay
+        | Command::Answer
+        | Command::Hallroute => {
             unreachable!("these have no cases of their own")
         }
     })

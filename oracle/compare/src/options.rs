@@ -13,7 +13,9 @@ compare floors    the floors that document 01 lists, and a few more
 compare selfcheck every sabotage is reported
 compare all       all of these, with one last line
 compare replay    writes the list that the program floors replays, and the lines it owes
-  --router R    who answers: second or proved (second)
+compare answer    answers calls, a line for each line of its input (conformance/README.md)
+compare hallroute answers as the program hallroute does
+  --router R    who answers: second, proved, or for the last two also rust (second)
   --seed S      the seed (1)
   --first N     the first case (0)
   --count N     how many cases (100)
@@ -39,16 +41,19 @@ pub enum Command {
     Selfcheck,
     All,
     Replay,
+    Answer,
+    Hallroute,
 }
 
-/// Who answers 01's calls: the second reading or the proved library.
+/// Who answers 01's calls: the second reading, the proved library, or the Rust of docs/src.
 #[derive(Clone, Copy, PartialEq, Eq)]
 pub enum Answering {
     Second,
     Proved,
+    Rust,
 }
 
-const COMMANDS: [(&str, Command); 10] = [
+const COMMANDS: [(&str, Command); 12] = [
     ("halls", Command::Halls),
     ("lent", Command::Lent),
     ("plans", Command::Plans),
@@ -59,6 +64,8 @@ const COMMANDS: [(&str, Command); 10] = [
     ("selfcheck", Command::Selfcheck),
     ("all", Command::All),
     ("replay", Command::Replay),
+    ("answer", Command::Answer),
+    ("hallroute", Command::Hallroute),
 ];
 
 #[derive(Clone)]
@@ -149,6 +156,7 @@ impl Answering {
         match name {
             "second" => Ok(Answering::Second),
             "proved" => Ok(Answering::Proved),
+            "rust" => Ok(Answering::Rust),
             _ => Err(format!("no router {name}")),
         }
     }
@@ -157,6 +165,7 @@ impl Answering {
         match self {
             Answering::Second => "second",
             Answering::Proved => "proved",
+            Answering::Rust => "rust",
         }
     }
 }
