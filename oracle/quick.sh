@@ -1,16 +1,10 @@
 #!/usr/bin/env bash
-# Holds the proved library and the second reading of document 01 against the Rust of
-# docs/src, in about a minute once the library is proved. The last lines have the
-# counts; any difference makes the status non-zero.
+# Holds the proved library, the proved program and the second reading of document 01
+# against the Rust of docs/src, in about a minute once library and program are proved.
+# The last lines have the counts; any difference makes the status non-zero.
 set -euo pipefail
 cd "$(dirname "${BASH_SOURCE[0]}")"
-bash install.sh
-(cd .. && rt staticlib hall_c | tail -n 1)
-export CARGO_TARGET_DIR="$PWD/target"
-
-cargo build --offline --release --quiet
-cargo test --offline --release --quiet --package petgraph_standin --test first_path
-cargo test --offline --release --quiet --manifest-path second/Cargo.toml --tests
+bash build.sh
 
 # The list that the program floors replays is what this writes.
 mkdir -p target/replay
@@ -19,4 +13,4 @@ cmp target/replay/stdin ../crates/floors/stdin
 cmp target/replay/stdout ../crates/floors/stdout
 
 target/release/compare all --router second --seed 1 --count 200 --routes 5 --changes 5 --threads 2
-target/release/compare all --router proved --seed 2 --count 400 --routes 5 --changes 5 --threads 2
+target/release/compare all --router proved --seed 2 --count 400 --routes 10 --changes 5 --threads 2

@@ -2,3 +2,4 @@ pub mod Passed
 pub mod Building
 pub mod Changing
 pub mod Listed
+pub mod RouteAnswers

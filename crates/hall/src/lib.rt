@@ -3,4 +3,5 @@ pub mod build;
 pub mod change;
 pub mod file;
 pub mod plan;
+pub mod routing;
 pub mod windows;

@@ -2,9 +2,11 @@
 use lib.Ieee.{Float}
 use Rattle.model.specs.declared.Dimensions.{Dimensions}
 use Rattle.model.specs.declared.Measured.{Measured}
+use Rattle.model.specs.declared.Routed.{Routed}
 use Rattle.model.specs.declared.Listed.{Listed}
-use Rattle.model.specs.Calls.{measuredNumber, measuredValues, listedNumber, listedCount}
+use Rattle.model.specs.Calls.{measuredNumber, measuredValues, routedNumber, routedSteps, routedLeg, routedRun, listedNumber, listedCount}
 use Rattle.hall_c.specs.declared.MeasuresAnswer.{MeasuresAnswer}
+use Rattle.hall_c.specs.declared.RouteAnswer.{RouteAnswer}
 use Rattle.hall_c.specs.declared.WindowsAnswer.{WindowsAnswer}
 
 abbrev pub dimensions : Float → Float → Float → Float → Dimensions
@@ -12,6 +14,9 @@ dimensions x y unit radius = record { «size_x» = x; «size_y» = y; unit = uni
 
 abbrev pub flatMeasures : Measured → MeasuresAnswer
 flatMeasures a = record { number = measuredNumber a; columns = measuredValues a .columns; rows = measuredValues a .rows; scale = measuredValues a .scale }
+
+abbrev pub flatRoute : Routed → RouteAnswer
+flatRoute a = record { number = routedNumber a; steps = routedSteps a; leg = routedLeg a; run = routedRun a }
 
 abbrev pub flatWindows : Listed → WindowsAnswer
 flatWindows a = record { number = listedNumber a; count = listedCount a }

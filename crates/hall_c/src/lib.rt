@@ -2,16 +2,18 @@
 ghost use mathlib.Core.Path.{_≡_};
 ghost use Prim.Native.Nat.{_/_};
 ghost use lib.ListN.{length};
-ghost use Rattle.model.specs.Calls.{planAnswer, readAnswer, readInto, measuresOf, buildNumber, buildInto, checkNumber, changeNumber, changeInto, windowsAnswer, windowsFlat};
-ghost use Rattle.hall_c.specs.Answers.{dimensions, flatMeasures, flatWindows};
+ghost use Rattle.model.specs.Calls.{planAnswer, readAnswer, readInto, measuresOf, buildNumber, buildInto, checkNumber, changeNumber, changeInto, routeAnswer, routeFlat, windowsAnswer, windowsFlat};
+ghost use Rattle.hall_c.specs.Answers.{dimensions, flatMeasures, flatRoute, flatWindows};
 use hall::build::build;
 use hall::change::change;
 use hall::file::read_file;
 use hall::plan::plan;
+use hall::routing::route;
 use hall::windows::windows;
 use model::Dimensions;
 use model::Listed;
 use model::Measured;
+use model::Routed;
 use store::check::check_store;
 
 // What plan and read file answer: 01's number, and the measures, which are 0 where it is a refusal.
@@ -21,6 +23,15 @@ pub struct MeasuresAnswer {
     pub columns: u8,
     pub rows: u8,
     pub scale: u8,
+}
+
+// What route answers: 01's number, and steps, leg and run, which are 0 where there is no route.
+#[repr(C)]
+pub struct RouteAnswer {
+    pub number: u8,
+    pub steps: u32,
+    pub leg: u32,
+    pub run: u32,
 }
 
 // What windows answers: 01's number, and how many there are, which is 0 where it is a refusal.
@@ -45,6 +56,31 @@ fn flat_measures(answer: Measured) -> MeasuresAnswer
             columns: 0,
             rows: 0,
             scale: 0,
+        },
+    }
+}
+
+fn flat_route(answer: Routed) -> RouteAnswer
+    ensures { λ r. ⌜ r ≡ flatRoute answer ⌝ }
+{
+    match answer {
+        Routed::Route { steps, leg, run } => RouteAnswer {
+            number: 0,
+            steps,
+            leg,
+            run,
+        },
+        Routed::NoRoute => RouteAnswer {
+            number: 0,
+            steps: 0,
+            leg: 0,
+            run: 0,
+        },
+        Routed::Refused(number) => RouteAnswer {
+            number,
+            steps: 0,
+            leg: 0,
+            run: 0,
         },
     }
 }
@@ -104,6 +140,20 @@ pub extern "C" fn hall_change(store: &mut [u8], floor_number: usize, cost: u8) -
     ensures changed { λ _. ⌜ now (store .exit) ≡ changeInto (now (store .entry)) «floor_number» cost ⌝ }
 {
     change(store, floor_number, cost)
+}
+
+// Finds the route from one cell to another, its steps six bytes each: column, row, goal, side, first and last cell.
+#[no_mangle]
+pub extern "C" fn hall_route(
+    store: &[u8],
+    source: usize,
+    goal: usize,
+    list: &mut [u8],
+) -> RouteAnswer
+    ensures answer { λ r. ⌜ r ≡ flatRoute (routeAnswer (now (store .entry)) source goal (length (now (list .entry)) / 6)) ⌝ }
+    ensures steps { λ _. ⌜ now (list .exit) ≡ routeFlat (now (store .entry)) source goal (now (list .entry)) ⌝ }
+{
+    flat_route(route(store, source, goal, list))
 }
 
 // Lists the windows of a sector, N, E, S, W, three bytes each: first cell, last cell and side.

@@ -21,7 +21,7 @@ use Rattle.model.specs.Portals.{isPortal, midCell, portalGraph}
 use Rattle.model.specs.LeastPath.{unlinked, keysTo, costOfKey}
 use Rattle.model.specs.LeastPathFirst.{Fits}
 use Rattle.model.specs.Route.{starts, ends, End, endOf, Pair, linkedPair, runOf, routePairs, chosenPair}
-use Rattle.route.specs.Near.{portalMoves, start-test, end-test, last-moves}
+use Rattle.graph.specs.Near.{portalMoves, start-test, end-test, last-moves}
 
 -- the run of a pair, or `unlinked` where a start or end is none or no path joins them
 unfoldable pub runFor : ℕ → ℕ → ℕ → ℕ

@@ -27,7 +27,7 @@ use Rattle.model.specs.LeastPath.{unlinked, keysTo, costOfKey, leastPath}
 use Rattle.model.specs.LeastPathFirst.{Fits}
 use Rattle.model.specs.Route.{Found, none, route, Pair, endOf, runOf, stepsOf, chosenPair, throughPair, throughPortals, oneStep, routeOf}
 use Rattle.model.specs.Calls.{ifAccepted, stepList, routed}
-use Rattle.route.specs.Near.{leg-moves, last-moves, near-portal}
+use Rattle.graph.specs.Near.{leg-moves, last-moves, near-portal}
 use Rattle.route.specs.Choosing.{Chosen, legAt, lastAt}
 use Rattle.route.specs.PortalPaths.{PortalPath, least-portal-path}
 use Rattle.route.specs.Stepping.{length-steps, length-flat}

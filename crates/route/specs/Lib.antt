@@ -1,10 +1,3 @@
-pub mod Across
-pub mod EdgeTable
-pub mod Reading
-pub mod Weights
-pub mod Searching
-pub mod Following
-pub mod Near
 pub mod Choosing
 pub mod PortalPaths
 pub mod Stepping

@@ -11,7 +11,7 @@ use Rattle.model.specs.Halls.{Hall}
 use Rattle.model.specs.Portals.{isPortal, portalGraph}
 use Rattle.model.specs.LeastPath.{unlinked, keysTo, leastPath}
 use Rattle.model.specs.LeastPathFirst.{Fits, edgeCost, head-portal, least-path}
-use Rattle.route.specs.Across.{portal-of}
+use Rattle.graph.specs.Across.{portal-of}
 
 -- a path of portals, of one at least
 pub record PortalPath (h : Hall) (path : List ℕ) : Type 0 where

@@ -9,10 +9,10 @@ ghost use Rattle.laws.specs.Graph.{BothWays};
 ghost use Rattle.model.specs.Sectors.{sectors};
 ghost use Rattle.model.specs.Moves.{apart};
 ghost use Rattle.model.specs.LeastPath.{keysTo};
-ghost use Rattle.route.specs.EdgeTable.{tableGraph};
-ghost use Rattle.route.specs.Searching.{Searched};
+ghost use Rattle.graph.specs.EdgeTable.{tableGraph};
+ghost use Rattle.graph.specs.Searching.{Searched};
 ghost use Rattle.route.specs.Choosing.{runFor, runIn, runAt, Foremost};
-use crate::keys::keys_to;
+use graph::keys::keys_to;
 use model::Measures;
 
 // The run of a pair by the key of its path, its leg and the moves from its end to the goal; 4294967295 where it is no pair.

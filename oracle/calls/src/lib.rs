@@ -1,5 +1,9 @@
 //! Document 01's calls with plain answers, whoever gives them.
 
+pub mod best;
+
+use std::any::Any;
+
 /// First cell, last cell and side (0 N, 1 E, 2 S, 3 W) of a window.
 #[derive(Clone, Copy, PartialEq, Eq, Debug, Default)]
 pub struct Window {
@@ -90,4 +94,11 @@ pub trait Judge: Clone {
     fn portal_graph(&self) -> PortalGraph;
     /// Fewest moves between two cells of one sector, by the Rust's own graph and search.
     fn moves(&self, sector: usize, from: usize, to: usize) -> Option<u32>;
+}
+
+/// What a panic says.
+pub fn panic_text(panic: &(dyn Any + Send)) -> String {
+    let text = panic.downcast_ref::<String>().cloned();
+    text.or_else(|| panic.downcast_ref::<&str>().map(|text| text.to_string()))
+        .unwrap_or_default()
 }

@@ -12,6 +12,7 @@ pub enum Use {
     Store,
     Damage,
     Bytes,
+    Input,
 }
 
 /// A stream of numbers.

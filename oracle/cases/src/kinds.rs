@@ -39,7 +39,7 @@ pub fn fill(kind: Kind, scale: usize, floor: &mut Floor, draw: &mut Draw) {
         Kind::Density => density(floor, scale, draw),
         Kind::Dots => dots(floor, draw),
         Kind::Walls => walls(floor, draw),
-        Kind::Combs => combs(floor, draw),
+        Kind::Combs => scattered_combs(floor, draw),
         Kind::Corridors => corridors(floor, draw),
         Kind::CornerGaps => corner_gaps(floor, draw),
         Kind::Divisible => divisible(floor, draw),
@@ -108,7 +108,7 @@ fn walls(floor: &mut Floor, draw: &mut Draw) {
 }
 
 /// Five windows on each side between sectors.
-fn combs(floor: &mut Floor, draw: &mut Draw) {
+pub fn combs(floor: &mut Floor, draw: &mut Draw) {
     for column in 0..floor.columns {
         for row in 0..floor.rows {
             let (x, y) = (column * 10, row * 10);
@@ -125,6 +125,11 @@ fn combs(floor: &mut Floor, draw: &mut Draw) {
             }
         }
     }
+}
+
+/// Combs, some of them with blocked cells anywhere.
+fn scattered_combs(floor: &mut Floor, draw: &mut Draw) {
+    combs(floor, draw);
     if draw.percent(40) {
         let per_thousand = draw.from_to(10, 150);
         scatter(floor, per_thousand, draw);

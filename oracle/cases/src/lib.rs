@@ -7,6 +7,7 @@ pub mod draw;
 pub mod files;
 pub mod floor;
 pub mod halls;
+pub mod inputs;
 pub mod kinds;
 pub mod pairs;
 pub mod plans;

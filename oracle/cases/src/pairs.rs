@@ -42,6 +42,12 @@ pub fn pair(floor: &Floor, draw: &mut Draw) -> (usize, usize) {
     }
 }
 
+/// A pair as the program reads it.
+pub fn put((source, goal): (usize, usize), input: &mut Vec<u8>) {
+    input.extend((source as u16).to_le_bytes());
+    input.extend((goal as u16).to_le_bytes());
+}
+
 /// A cell that is open, if a few tries find one.
 fn open_cell(floor: &Floor, draw: &mut Draw) -> usize {
     let mut cell = draw.below(floor.costs.len());

@@ -4,10 +4,11 @@
 use calls::{Router, Window};
 use cases::draw::{Draw, Use};
 use cases::floor::Floor;
-use cases::{changes, damage, files, halls, stores};
+use cases::{changes, damage, files, halls, pairs, stores};
 
 use crate::options::Options;
 use crate::report::{Difference, Report};
+use crate::routes::OLD_STEP;
 use crate::second_router::Second;
 use crate::trial::OLD_WINDOW;
 
@@ -79,7 +80,27 @@ impl Bytes<'_> {
             self.windows(&store, sector, room, report);
         }
         self.windows(&store, usize::MAX, 20, report);
+        self.routes(&store, &floor, report);
         self.changes(&store, &floor, report);
+    }
+
+    /// Some routes with any room, now and then of a floor number too large.
+    fn routes(&mut self, store: &[u8], floor: &Floor, report: &mut Report) {
+        for _ in 0..4 {
+            let (mut source, mut goal) = pairs::pair(floor, &mut self.draw);
+            let past = self.draw.pick(&[floor.costs.len(), 65_536, usize::MAX]);
+            match self.draw.below(20) {
+                0 => source = past,
+                1 => goal = past,
+                _ => {}
+            }
+            let room = self.draw.pick(&[0, 1, 2, 3, 5, 1001]);
+            let mut lent = [vec![OLD_STEP; room], vec![OLD_STEP; room]];
+            let given = self.router.route(store, source, goal, &mut lent[0]);
+            let owed = Second.route(store, source, goal, &mut lent[1]);
+            let pair = ((given, &lent[0]), (owed, &lent[1]));
+            self.check("route", owed.number, pair, report);
+        }
     }
 
     /// Some changes in turn, now and then of a floor number too large.

@@ -193,9 +193,7 @@ impl Damaged<'_> {
         let hall = self.hall();
         let mut input = files::file(&hall, &mut self.draw);
         for _ in 0..self.draw.below(3) {
-            let (source, goal) = pairs::pair(&hall.floor, &mut self.draw);
-            input.extend((source as u16).to_le_bytes());
-            input.extend((goal as u16).to_le_bytes());
+            pairs::put(pairs::pair(&hall.floor, &mut self.draw), &mut input);
         }
         damage::damage(&mut input, &mut self.draw);
         if self.draw.percent(3) {

@@ -154,15 +154,14 @@ fn windows(router: &dyn Router, floor: Floor, sector: usize, owed: &[(u8, u8, u8
     })
 }
 
-fn route(router: &dyn Router, floor: Floor, (source, goal): (usize, usize), owed: &str) -> bool {
+fn route(router: &dyn Router, floor: Floor, pair: (usize, usize), owed: &str) -> bool {
     let ([columns, rows, _], blocked) = floor;
     let entries: Vec<(usize, u8)> = blocked.iter().map(|cell| (*cell, 255)).collect();
     let mut input = cases::files::encode(floor.0, &entries);
-    input.extend((source as u16).to_le_bytes());
-    input.extend((goal as u16).to_le_bytes());
+    cases::pairs::put(pair, &mut input);
     built(router, floor).is_some_and(|(hall, _)| {
         let sectors = usize::from(columns) * usize::from(rows);
         router.hallroute(&input) == owed.as_bytes()
-            && text::lines(&hall, sectors, &[(source, goal)], 0) == owed
+            && text::lines(&hall, sectors, &[pair], 0) == owed
     })
 }

@@ -15,6 +15,9 @@ use crate::trial::{TAIL, Trial};
 /// A hall built by all sides from the same base costs.
 pub fn built(router: &dyn Router, options: &Options, case: u64, report: &mut Report) {
     let hall = halls::hall(options.seed, case);
+    if hall.sectors() < options.sectors {
+        return;
+    }
     let (measures, base) = (hall.measures(), &hall.floor.costs);
     let mut store = vec![0x5a; 4 + 208 * hall.sectors()];
     store[..2].copy_from_slice(&measures[..2]);
@@ -31,7 +34,7 @@ pub fn built(router: &dyn Router, options: &Options, case: u64, report: &mut Rep
     };
     report.count("halls", 1);
     report.count(format!("halls of scale {}", hall.scale), 1);
-    report.count(format!("halls of {}", size_name(hall.sectors())), 1);
+    report.count(format!("halls of {}", trial.size_name()), 1);
     report.count(format!("halls of kind {:?}", hall.kind), 1);
     report.see("sizes of halls", &measures[..2]);
     report.see("sizes of halls with scales", &measures);
@@ -47,6 +50,9 @@ pub fn built(router: &dyn Router, options: &Options, case: u64, report: &mut Rep
 
 /// A lent store whose costs and marks may disagree, taken in by all sides.
 pub fn lent(router: &dyn Router, options: &Options, case: u64, report: &mut Report) {
+    if halls::hall(options.seed, case).sectors() < options.sectors {
+        return;
+    }
     let (mut store, floor) = stores::store(options.seed, case);
     let standin = Standin::from_store(&store);
     let petgraph = Petgraph::from_store(&store);
@@ -86,6 +92,14 @@ fn calls_in_turn(trial: &mut Trial, options: &Options, floor: &Floor, report: &m
 fn some_routes(trial: &mut Trial, options: &Options, floor: &Floor, of: Use, report: &mut Report) {
     let graph = trial.standin.portal_graph();
     let mut draw = Draw::new(options.seed, trial.case, of);
+    let after = trial.changes > 0;
+    let when = if after {
+        "after changes"
+    } else {
+        "before changes"
+    };
+    report.count(format!("routes {when}"), options.routes);
+    report.count(format!("routes on {}", trial.size_name()), options.routes);
     for _ in 0..options.routes {
         let pair = pairs::pair(floor, &mut draw);
         trial.compare_route(&graph, pair, report);
@@ -98,10 +112,9 @@ fn compare_program(trial: &Trial, options: &Options, hall: &halls::Hall, report:
     let mut input = files::file(hall, &mut draw);
     let mut asked = vec![];
     for _ in 0..options.routes {
-        let (source, goal) = pairs::pair(&hall.floor, &mut draw);
-        asked.push((source, goal));
-        input.extend((source as u16).to_le_bytes());
-        input.extend((goal as u16).to_le_bytes());
+        let pair = pairs::pair(&hall.floor, &mut draw);
+        asked.push(pair);
+        pairs::put(pair, &mut input);
     }
     let spare = draw.below(4);
     input.extend(&[7; 3][..spare]);
@@ -112,16 +125,5 @@ fn compare_program(trial: &Trial, options: &Options, hall: &halls::Hall, report:
     if given != owed.as_bytes() {
         let given = String::from_utf8_lossy(&given);
         trial.differ(format!("program: {given:?}, owed {owed:?}"), report);
-    }
-}
-
-fn size_name(sectors: usize) -> &'static str {
-    match sectors {
-        1 => "1 sector",
-        2..=4 => "2 to 4 sectors",
-        5..=9 => "5 to 9 sectors",
-        10..=25 => "10 to 25 sectors",
-        26..=99 => "26 to 99 sectors",
-        _ => "100 sectors",
     }
 }

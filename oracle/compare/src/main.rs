@@ -1,17 +1,19 @@
 //! Holds a router against the Rust of docs/src, on seeded cases.
 
-mod best;
+mod answer;
 mod bytes;
 mod damaged;
 mod floors;
 mod halls;
 mod options;
 mod plans;
+mod program;
 mod proved_router;
 mod refusals;
 mod replay;
 mod report;
 mod routes;
+mod rust_router;
 mod sabotage;
 mod second_router;
 mod text;
@@ -23,6 +25,7 @@ use calls::Router;
 use options::{Answering, Command, Options};
 use proved_router::Proved;
 use report::Report;
+use rust_router::Rust;
 use sabotage::Sabotaged;
 use second_router::Second;
 
@@ -41,6 +44,8 @@ fn main() -> ExitCode {
         Command::All => all(&options),
         Command::Selfcheck => sabotage::selfcheck(&options),
         Command::Replay => replay::write(&options),
+        Command::Answer => answer::lines(router(&options)).is_ok(),
+        Command::Hallroute => answer::hallroute(router(&options)).is_ok(),
         _ => {
             let report = run(&options);
             report.print(&options);
@@ -50,13 +55,14 @@ fn main() -> ExitCode {
 }
 
 /// The parts of a whole comparison.
-const PARTS: [Command; 6] = [
+const PARTS: [Command; 7] = [
     Command::Floors,
     Command::Halls,
     Command::Lent,
     Command::Plans,
     Command::Damaged,
     Command::Bytes,
+    Command::Program,
 ];
 
 /// Runs every part and the self-check, with one line about all of it at the end.
@@ -64,7 +70,8 @@ fn all(options: &Options) -> bool {
     let mut whole = Report::default();
     for command in PARTS {
         // The second reading is not held against itself.
-        if command == Command::Bytes && options.router == Answering::Second {
+        let by_second = [Command::Bytes, Command::Program].contains(&command);
+        if by_second && options.router == Answering::Second {
             continue;
         }
         let part = options.part(command, options.count);
@@ -81,12 +88,18 @@ fn all(options: &Options) -> bool {
     checked && whole.differences.is_empty()
 }
 
-/// Runs all cases that the options ask for.
-fn run(options: &Options) -> Report {
-    let router: &dyn Router = match options.router {
+/// Whoever the options ask to answer.
+fn router(options: &Options) -> &'static dyn Router {
+    match options.router {
         Answering::Second => &Second,
         Answering::Proved => &Proved,
-    };
+        Answering::Rust => &Rust,
+    }
+}
+
+/// Runs all cases that the options ask for.
+fn run(options: &Options) -> Report {
+    let router = router(options);
     match options.sabotage {
         Some(kind) => run_with(&Sabotaged { kind, router }, options),
         None => run_with(router, options),
@@ -100,8 +113,13 @@ fn run_with(router: &dyn Router, options: &Options) -> Report {
         Command::Plans => plans::compare(router, options, case, report),
         Command::Damaged => damaged::compare(router, options, case, report),
         Command::Bytes => bytes::compare(router, options, case, report),
+        Command::Program => program::compare(router, options, case, report),
         Command::Floors => floors::compare(router, case, report),
-        Command::Selfcheck | Command::All | Command::Replay => {
+        Command::Selfcheck
+        | Command::All
+        | Command::Replay
+        | Command::Answer
+        | Command::Hallroute => {
             unreachable!("these have no cases of their own")
         }
     })

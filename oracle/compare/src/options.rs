@@ -8,20 +8,25 @@ compare lent      lent stores: windows, changes, routes
 compare plans     plans
 compare damaged   damaged files and stores, and every argument out of range
 compare bytes     damaged files and stores, every lent byte against the second reading
+compare program   inputs of the program, whole and damaged, against the second reading
 compare floors    the floors that document 01 lists, and a few more
 compare selfcheck every sabotage is reported
 compare all       all of these, with one last line
 compare replay    writes the list that the program floors replays, and the lines it owes
-  --router R    who answers: second or proved (second)
+compare answer    answers calls, a line for each line of its input (conformance/README.md)
+compare hallroute answers as the program hallroute does
+  --router R    who answers: second, proved, or for the last two also rust (second)
   --seed S      the seed (1)
   --first N     the first case (0)
   --count N     how many cases (100)
   --routes M    routes on each hall before its changes, and again after them (5)
   --changes K   changes of each hall (5)
+  --sectors N   halls and lent: leaves out cases of fewer sectors (1)
   --threads T   1 or 2 (1)
   --into FOLDER where replay writes stdin and stdout (.)
   --sabotage K  spoils the answers on purpose: tie, midpoint, target, mark, windows,
-                leg, run, none, tail, refused, file, plan, program, check, spare";
+                leg, run, none, tail, refused, file, plan, program, check, spare,
+                room, behind, long";
 
 /// What is compared.
 #[derive(Clone, Copy, PartialEq, Eq)]
@@ -31,29 +36,36 @@ pub enum Command {
     Plans,
     Damaged,
     Bytes,
+    Program,
     Floors,
     Selfcheck,
     All,
     Replay,
+    Answer,
+    Hallroute,
 }
 
-/// Who answers 01's calls: the second reading or the proved library.
+/// Who answers 01's calls: the second reading, the proved library, or the Rust of docs/src.
 #[derive(Clone, Copy, PartialEq, Eq)]
 pub enum Answering {
     Second,
     Proved,
+    Rust,
 }
 
-const COMMANDS: [(&str, Command); 9] = [
+const COMMANDS: [(&str, Command); 12] = [
     ("halls", Command::Halls),
     ("lent", Command::Lent),
     ("plans", Command::Plans),
     ("damaged", Command::Damaged),
     ("bytes", Command::Bytes),
+    ("program", Command::Program),
     ("floors", Command::Floors),
     ("selfcheck", Command::Selfcheck),
     ("all", Command::All),
     ("replay", Command::Replay),
+    ("answer", Command::Answer),
+    ("hallroute", Command::Hallroute),
 ];
 
 #[derive(Clone)]
@@ -65,6 +77,7 @@ pub struct Options {
     pub count: u64,
     pub routes: usize,
     pub changes: usize,
+    pub sectors: usize,
     pub threads: usize,
     pub sabotage: Option<Sabotage>,
     pub into: String,
@@ -80,6 +93,7 @@ impl Options {
             count: 100,
             routes: 5,
             changes: 5,
+            sectors: 1,
             threads: 1,
             sabotage: None,
             into: ".".into(),
@@ -109,6 +123,7 @@ impl Options {
             "--count" => self.count = number()?,
             "--routes" => self.routes = number()? as usize,
             "--changes" => self.changes = number()? as usize,
+            "--sectors" => self.sectors = number()? as usize,
             "--threads" => self.threads = number()?.max(1) as usize,
             "--into" => self.into = value.into(),
             "--sabotage" => self.sabotage = Some(Sabotage::named(value)?),
@@ -141,6 +156,7 @@ impl Answering {
         match name {
             "second" => Ok(Answering::Second),
             "proved" => Ok(Answering::Proved),
+            "rust" => Ok(Answering::Rust),
             _ => Err(format!("no router {name}")),
         }
     }
@@ -149,6 +165,7 @@ impl Answering {
         match self {
             Answering::Second => "second",
             Answering::Proved => "proved",
+            Answering::Rust => "rust",
         }
     }
 }

@@ -1,9 +1,6 @@
-//! The proved library as a router. Calls that it does not have yet are answered by
-//! the second reading: route and the program.
+//! The proved library and the proved program as a router.
 
 use calls::{Counted, Measures, Routed, Router, Step, Window};
-
-use crate::second_router::Second;
 
 /// Bytes on both sides of what is lent, and what they hold.
 const GUARD: [u8; 16] = [0xa5; 16];
@@ -32,19 +29,9 @@ impl Router for Proved {
     }
 
     fn windows(&self, store: &[u8], sector: usize, list: &mut [Window]) -> Counted {
-        let entries = list.iter().flat_map(|w| [w.first, w.last, w.side]);
-        // One or two bytes that are no whole entry must stay.
-        let spare = sector % 3;
-        let mut flat: Vec<u8> = entries.chain(GUARD.into_iter().take(spare)).collect();
-        let answer = lend(&mut flat, |flat| proved::windows(store, sector, flat));
-        assert!(flat.ends_with(&GUARD[..spare]));
-        for (window, entry) in list.iter_mut().zip(flat.chunks_exact(3)) {
-            *window = Window {
-                first: entry[0],
-                last: entry[1],
-                side: entry[2],
-            };
-        }
+        let flat = |w: &Window| [w.first, w.last, w.side];
+        let call = |lent: &mut [u8]| proved::windows(store, sector, lent);
+        let answer = lend_flat(list, flat, window, sector % 3, call);
         Counted {
             number: answer.number,
             count: answer.count,
@@ -52,11 +39,19 @@ impl Router for Proved {
     }
 
     fn route(&self, store: &[u8], source: usize, goal: usize, list: &mut [Step]) -> Routed {
-        Second.route(store, source, goal, list)
+        let call = |lent: &mut [u8]| proved::route(store, source, goal, lent);
+        let spare = source.wrapping_add(goal) % 6;
+        let answer = lend_flat(list, flat_step, step, spare, call);
+        Routed {
+            number: answer.number,
+            steps: answer.steps,
+            leg: answer.leg,
+            run: answer.run,
+        }
     }
 
     fn hallroute(&self, input: &[u8]) -> Vec<u8> {
-        Second.hallroute(input)
+        proved::hallroute(input)
     }
 }
 
@@ -65,9 +60,51 @@ fn lend<T>(bytes: &mut [u8], call: impl FnOnce(&mut [u8]) -> T) -> T {
     let mut lent = [&GUARD, &*bytes, &GUARD].concat();
     let end = lent.len() - GUARD.len();
     let answer = call(&mut lent[GUARD.len()..end]);
-    assert!(lent.starts_with(&GUARD) && lent.ends_with(&GUARD));
+    let stayed = lent.starts_with(&GUARD) && lent.ends_with(&GUARD);
+    assert!(stayed, "bytes beside what is lent");
     bytes.copy_from_slice(&lent[GUARD.len()..end]);
     answer
+}
+
+/// Lends a list as `N` bytes an entry, with spare bytes behind it that are no whole entry
+/// and must stay.
+fn lend_flat<E, const N: usize, T>(
+    list: &mut [E],
+    flat: impl Fn(&E) -> [u8; N],
+    entry: impl Fn([u8; N]) -> E,
+    spare: usize,
+    call: impl FnOnce(&mut [u8]) -> T,
+) -> T {
+    let mut bytes: Vec<u8> = list.iter().flat_map(flat).collect();
+    bytes.extend(&GUARD[..spare]);
+    let answer = lend(&mut bytes, call);
+    let (entries, rest) = bytes.as_chunks();
+    assert!(rest == &GUARD[..spare], "bytes that are no whole entry");
+    for (place, bytes) in list.iter_mut().zip(entries) {
+        *place = entry(*bytes);
+    }
+    answer
+}
+
+fn window([first, last, side]: [u8; 3]) -> Window {
+    Window { first, last, side }
+}
+
+/// Side 4 says that there is no window, and then both cells are 0.
+fn flat_step(step: &Step) -> [u8; 6] {
+    let window = step.window.map_or([4, 0, 0], |w| [w.side, w.first, w.last]);
+    let [side, first, last] = window;
+    [step.column, step.row, step.goal, side, first, last]
+}
+
+fn step([column, row, goal, side, first, last]: [u8; 6]) -> Step {
+    let none = [side, first, last] == [4, 0, 0];
+    Step {
+        column,
+        row,
+        goal,
+        window: (!none).then_some(Window { first, last, side }),
+    }
 }
 
 fn measures(answer: proved::MeasuresAnswer) -> Measures {

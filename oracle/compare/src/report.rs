@@ -5,6 +5,8 @@ use std::panic::{AssertUnwindSafe, catch_unwind};
 use std::sync::Mutex;
 use std::sync::atomic::{AtomicU64, Ordering};
 
+use calls::panic_text;
+
 use crate::options::Options;
 
 /// Something that differs, and the least part of its case that shows it.
@@ -64,6 +66,7 @@ impl Report {
             "plans",
             "damaged cases",
             "cases of damaged bytes",
+            "inputs of the program",
         ] {
             let number = self.counts.get(what).unwrap_or(&0);
             line.push_str(&format!("{number} {what}, "));
@@ -118,13 +121,15 @@ pub fn run_cases(options: &Options, run: impl Fn(u64, &mut Report) + Sync) -> Re
             if case >= options.first + options.count {
                 break;
             }
-            if catch_unwind(AssertUnwindSafe(|| run(case, &mut report))).is_err() {
+            let run = catch_unwind(AssertUnwindSafe(|| run(case, &mut report)));
+            if let Err(panic) = run {
+                let text = panic_text(panic.as_ref());
                 report.differences.push(Difference {
                     sectors: 0,
                     case,
                     changes: options.changes,
                     routes: options.routes,
-                    text: "a panic outside the Rust's own".into(),
+                    text: format!("a panic outside the Rust's own: {text}"),
                 });
             }
         }

@@ -1,10 +1,10 @@
 //! Routes: each answer against both builds of the Rust.
 
+use calls::best::{self, Best};
 use calls::{Judge, PortalGraph, Routed, Step};
 
-use crate::best::{self, Best};
 use crate::report::Report;
-use crate::trial::Trial;
+use crate::trial::{OLD_WINDOW, Trial};
 
 /// The most steps that a lent list is owed room for.
 const ROOM: usize = 1001;
@@ -14,7 +14,7 @@ pub const OLD_STEP: Step = Step {
     column: 201,
     row: 202,
     goal: 203,
-    window: None,
+    window: Some(OLD_WINDOW),
 };
 
 impl Trial<'_> {
@@ -40,7 +40,7 @@ impl Trial<'_> {
         self.compare_petgraph(graph, (source, goal), steps.as_deref(), best, report);
     }
 
-    /// The router's answer with room enough, and with one step too little room.
+    /// The router's answer with room enough, and every second time with other room too.
     fn compare_answer(
         &self,
         (source, goal): (usize, usize),
@@ -59,27 +59,33 @@ impl Trial<'_> {
         };
         let steps = steps.unwrap_or_default();
         self.ask((source, goal), ROOM, owed, steps, report);
-        if !steps.is_empty() && self.routes.is_multiple_of(4) {
-            let number = 25;
-            report.count("routes refused 25", 1);
-            let refused = Routed {
-                number,
-                ..Routed::default()
-            };
-            self.ask((source, goal), steps.len() - 1, refused, &[], report);
-            self.ask((source, goal), steps.len(), owed, steps, report);
+        let turn = self.case as usize + self.routes;
+        if turn.is_multiple_of(2) {
+            let enough = steps.len();
+            let room = [enough, enough.saturating_sub(1), 0, 1][turn / 2 % 4];
+            self.ask((source, goal), room, owed, steps, report);
         }
     }
 
-    /// One call: the answer, the steps, and the rest of the list as it was.
+    /// One call: the answer, or 25 if the steps are more than the room, the steps, and the
+    /// rest of the list as it was.
     fn ask(
         &self,
         (source, goal): (usize, usize),
         room: usize,
-        owed: Routed,
-        steps: &[Step],
+        mut owed: Routed,
+        mut steps: &[Step],
         report: &mut Report,
     ) {
+        report.count("calls of route", 1);
+        if steps.len() > room {
+            report.count("calls of route refused 25", 1);
+            owed = Routed {
+                number: 25,
+                ..Routed::default()
+            };
+            steps = &[];
+        }
         let mut list = vec![OLD_STEP; room];
         let mut owed_list = list.clone();
         owed_list[..steps.len()].copy_from_slice(steps);

@@ -23,9 +23,12 @@ pub enum Sabotage {
     Program,
     Check,
     Spare,
+    Room,
+    Behind,
+    Long,
 }
 
-const KINDS: [(&str, Sabotage, Command); 15] = [
+const KINDS: [(&str, Sabotage, Command); 18] = [
     ("tie", Sabotage::Tie, Command::Halls),
     ("midpoint", Sabotage::Midpoint, Command::Halls),
     ("target", Sabotage::Target, Command::Halls),
@@ -41,6 +44,9 @@ const KINDS: [(&str, Sabotage, Command); 15] = [
     ("program", Sabotage::Program, Command::Damaged),
     ("check", Sabotage::Check, Command::Bytes),
     ("spare", Sabotage::Spare, Command::Bytes),
+    ("room", Sabotage::Room, Command::Halls),
+    ("behind", Sabotage::Behind, Command::Lent),
+    ("long", Sabotage::Long, Command::Program),
 ];
 
 impl Sabotage {
@@ -53,7 +59,7 @@ impl Sabotage {
 /// Cases that are enough to meet every sabotage: of damage few come to the number that is spoiled.
 fn cases(command: Command) -> u64 {
     match command {
-        Command::Damaged | Command::Bytes => 300,
+        Command::Damaged | Command::Bytes | Command::Program => 300,
         _ => 40,
     }
 }
@@ -155,13 +161,20 @@ impl Router for Sabotaged<'_> {
             Sabotage::Leg if over_portals => answer.leg += 1,
             Sabotage::Run if over_portals => answer.run += answer.leg,
             Sabotage::None if length > 4 => answer = Routed::default(),
+            Sabotage::Room if over_portals && length == list.len() => answer.number = 25,
+            Sabotage::Behind if length < list.len() => list[length] = Step::default(),
             _ => {}
         }
         answer
     }
 
     fn hallroute(&self, input: &[u8]) -> Vec<u8> {
-        let mut lines = self.router.hallroute(input);
+        // What is too long is cut instead of refused.
+        let most = match self.kind {
+            Sabotage::Long => 65_536,
+            _ => usize::MAX,
+        };
+        let mut lines = self.router.hallroute(&input[..input.len().min(most)]);
         if self.kind == Sabotage::Program && lines.ends_with(b"cut\n") {
             lines.truncate(lines.len() - 4);
         }

@@ -1,8 +1,6 @@
 //! The program's lines, from the Rust's answers.
 
-use calls::{Judge, Step};
-
-use crate::best;
+use calls::{Judge, Step, best};
 
 /// The lines for these pairs on an accepted hall, and `cut` for spare bytes.
 pub fn lines<J: Judge>(

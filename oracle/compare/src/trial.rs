@@ -39,6 +39,17 @@ impl Trial<'_> {
         self.store[1].into()
     }
 
+    pub fn size_name(&self) -> &'static str {
+        match self.sectors() {
+            1 => "1 sector",
+            2..=4 => "2 to 4 sectors",
+            5..=9 => "5 to 9 sectors",
+            10..=25 => "10 to 25 sectors",
+            26..=99 => "26 to 99 sectors",
+            _ => "100 sectors",
+        }
+    }
+
     pub fn differ(&self, text: String, report: &mut Report) {
         report.differences.push(Difference {
             sectors: self.sectors(),

@@ -1,4 +1,8 @@
-//! The calls that crate `hall_c` exports, behind safe functions.
+//! The calls that crate `hall_c` exports, and the program `hallroute`, behind safe functions.
+
+mod program;
+
+pub use program::hallroute;
 
 /// What plan and read file answer; a refusal has no measures.
 #[repr(C)]
@@ -16,6 +20,16 @@ pub struct MeasuresAnswer {
 pub struct WindowsAnswer {
     pub number: u8,
     pub count: u8,
+}
+
+/// What route answers; a refusal and "none" have 0 steps.
+#[repr(C)]
+#[derive(Clone, Copy, PartialEq, Eq, Debug, Default)]
+pub struct RouteAnswer {
+    pub number: u8,
+    pub steps: u32,
+    pub leg: u32,
+    pub run: u32,
 }
 
 // A slice of the library's is two arguments here: where it begins, and its length.
@@ -45,6 +59,14 @@ unsafe extern "C" {
         list: *mut u8,
         list_length: usize,
     ) -> WindowsAnswer;
+    fn hall_route(
+        store: *const u8,
+        store_length: usize,
+        source: usize,
+        goal: usize,
+        list: *mut u8,
+        list_length: usize,
+    ) -> RouteAnswer;
 }
 
 pub fn plan([size_x, size_y, unit, radius]: [f32; 4]) -> MeasuresAnswer {
@@ -78,4 +100,12 @@ pub fn windows(store: &[u8], sector: usize, list: &mut [u8]) -> WindowsAnswer {
     let (lent, room) = (list.as_mut_ptr(), list.len());
     // SAFETY: both slices are lent whole for the time of the call, and their lengths with them.
     unsafe { hall_windows(store.as_ptr(), store.len(), sector, lent, room) }
+}
+
+/// The list takes six bytes a step: column, row, goal, side, first cell and last cell.
+/// Without a window the side is 4, and both cells are 0.
+pub fn route(store: &[u8], source: usize, goal: usize, list: &mut [u8]) -> RouteAnswer {
+    let (lent, room) = (list.as_mut_ptr(), list.len());
+    // SAFETY: both slices are lent whole for the time of the call, and their lengths with them.
+    unsafe { hall_route(store.as_ptr(), store.len(), source, goal, lent, room) }
 }

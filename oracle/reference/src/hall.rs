@@ -3,7 +3,7 @@
 use std::collections::BTreeMap;
 use std::panic::{AssertUnwindSafe, catch_unwind};
 
-use calls::{Judge, Portal, PortalGraph, RustPlan, Step, Window};
+use calls::{Judge, Portal, PortalGraph, RustPlan, Step, Window, panic_text};
 
 use crate::flowfields::dimensions::Dimensions;
 use crate::flowfields::fields::Field;
@@ -227,10 +227,4 @@ fn step(step: &RouteStep) -> Step {
         goal: step.get_goal() as u8,
         window: step.portal().as_ref().map(layout::window),
     }
-}
-
-fn panic_text(panic: &(dyn std::any::Any + Send)) -> String {
-    let text = panic.downcast_ref::<String>().cloned();
-    text.or_else(|| panic.downcast_ref::<&str>().map(|text| text.to_string()))
-        .unwrap_or_default()
 }

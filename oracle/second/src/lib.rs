@@ -8,6 +8,7 @@ pub mod change;
 pub mod directions;
 pub mod file;
 pub mod floor;
+pub mod lines;
 pub mod marks;
 pub mod plan;
 pub mod portals;

@@ -5,7 +5,7 @@ use mathlib.Core.Path.{_≡_, refl, _∙_}
 use mathlib.Core.List.{List}
 use lib.ListN.{length}
 use Rattle.laws.specs.Table.{Tabled, tabled-none, tabled-all}
-use Rattle.route.specs.EdgeTable.{tableGraph}
+use Rattle.graph.specs.EdgeTable.{tableGraph}
 use Rattle.route.specs.Choosing.{runIn, row-runs}
 use borrow.Author.Needs.{needs}
 use Rattle.route.proofs.choice.fill_runs.Statement.{statement}

@@ -4,7 +4,7 @@ use mathlib.Core.Path.{sym, ap, _∙_}
 use denote.Ref.{now}
 use Rattle.model.specs.declared.Measures.{Measures}
 use Rattle.model.specs.Route.{Found}
-use Rattle.route.specs.Reading.{few-of, measures-are}
+use Rattle.graph.specs.Reading.{few-of, measures-are}
 use Rattle.route.specs.Finding.{foundAnswer, foundInto, lastRoute, apart-found, joined-found}
 use borrow.Author.Needs.{needs}
 use Rattle.route.proofs.find.find_path.Statement.{statement}

@@ -13,9 +13,9 @@ use Rattle.model.specs.LeastPathFirst.{Fits}
 use Rattle.model.specs.Halls.{Hall}
 use Rattle.model.specs.Route.{Found, throughPortals}
 use Rattle.model.specs.Store.{decode}
-use Rattle.route.specs.Reading.{fits-of, measures-are}
-use Rattle.route.specs.Following.{Linked, graph-is, searched-of, searched-both-ways}
-use Rattle.route.specs.Near.{portalMoves}
+use Rattle.graph.specs.Reading.{fits-of, measures-are}
+use Rattle.graph.specs.Following.{Linked, graph-is, searched-of, searched-both-ways}
+use Rattle.graph.specs.Near.{portalMoves}
 use Rattle.route.specs.Choosing.{runIn, Chosen, chosen-none, chosen-some}
 use Rattle.route.specs.Finding.{foundAnswer, foundInto, pair-found, pair-paired, pairRoute, none-found}
 use borrow.Author.Needs.{needs}

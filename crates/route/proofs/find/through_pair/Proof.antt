@@ -11,9 +11,9 @@ use Rattle.model.specs.Portals.{portalGraph}
 use Rattle.model.specs.LeastPath.{unlinked, keysTo}
 use Rattle.model.specs.LeastPathFirst.{Fits}
 use Rattle.model.specs.Store.{decode}
-use Rattle.route.specs.Across.{portal-of}
-use Rattle.route.specs.Reading.{few-of, fits-of, measures-are}
-use Rattle.route.specs.Following.{Linked, graph-is, searched-of, searched-both-ways}
+use Rattle.graph.specs.Across.{portal-of}
+use Rattle.graph.specs.Reading.{few-of, fits-of, measures-are}
+use Rattle.graph.specs.Following.{Linked, graph-is, searched-of, searched-both-ways}
 use Rattle.route.specs.Finding.{taken-few, taken-path, pair-no-room, pair-written}
 use borrow.Author.Needs.{needs}
 use Rattle.route.proofs.find.through_pair.Statement.{statement}

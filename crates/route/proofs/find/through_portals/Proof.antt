@@ -2,7 +2,7 @@
 use native.Mathlib.Omega.{arith}
 use Prim.Native.Nat.{_≤_}
 use lib.ListN.{length-take}
-use Rattle.route.specs.Reading.{few-of}
+use Rattle.graph.specs.Reading.{few-of}
 use borrow.Author.Needs.{needs}
 use Rattle.route.proofs.find.through_portals.Statement.{statement}
 use Rattle.route.proofs.find.through_portals.Tie as tie

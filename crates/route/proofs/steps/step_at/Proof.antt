@@ -15,8 +15,8 @@ use Rattle.model.specs.Halls.{Hall}
 use Rattle.model.specs.Portals.{portalSector, portalSide, portalWindow, portalMark, midpoint}
 use Rattle.model.specs.Route.{stepAt}
 use Rattle.model.specs.Store.{decode}
-use Rattle.route.specs.Across.{portal-of}
-use Rattle.route.specs.Reading.{measures-are, few-of, portal-sector}
+use Rattle.graph.specs.Across.{portal-of}
+use Rattle.graph.specs.Reading.{measures-are, few-of, portal-sector}
 use Rattle.route.proofs.steps.step_at.Statement.{statement}
 use Rattle.route.proofs.steps.step_at.Tie as tie
 

@@ -15,7 +15,7 @@ use Rattle.model.specs.Steps.{lastStep}
 use Rattle.model.specs.Portals.{isPortal, portalSector}
 use Rattle.model.specs.Route.{stepAt}
 use Rattle.model.specs.Store.{decode}
-use Rattle.route.specs.Reading.{measures-are, few-of, portal-sector}
+use Rattle.graph.specs.Reading.{measures-are, few-of, portal-sector}
 use Rattle.route.specs.Stepping.{Stepped, stepped-none, stepped-turn, stepped-end}
 use Rattle.route.proofs.steps.write_steps.Statement.{statement}
 use Rattle.route.proofs.steps.write_steps.Tie as tie

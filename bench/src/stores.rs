@@ -1,0 +1,93 @@
+//! Build and change: both sides are held to the same store.
+
+use std::hint::black_box;
+
+use calls::Judge;
+use cases::draw::{Draw, Use};
+use cases::floor::Floor;
+use reference_petgraph::Hall;
+
+use crate::halls::{SEED, combs, drawn, sevenths};
+use crate::timing::{Times, median, timed};
+
+/// Turns of a build, and changes of a hall.
+const BUILDS: usize = 51;
+const CHANGES: usize = 401;
+
+pub fn print() {
+    println!("| case | proved | Rust | Rust / proved | Rust, scaling alone |");
+    println!("|---|---|---|---|---|");
+    let drawn = drawn(10);
+    build("build, scale 1, all open", 1, &Floor::open(10, 10));
+    build("build, scale 1, 20 % blocked", 1, &drawn);
+    build("build, scale 1, combs", 1, &combs(10));
+    let sevenths = sevenths(10);
+    build(
+        "build, scale 9, floor numbers divisible by 7 blocked",
+        9,
+        &sevenths,
+    );
+    change("change, scale 1, 20 % blocked", 1, &drawn);
+    change("change, scale 3, 20 % blocked", 3, &drawn);
+    change(
+        "change, scale 9, floor numbers divisible by 7 blocked",
+        9,
+        &sevenths,
+    );
+    check("store check, which opens change and route", &drawn);
+}
+
+/// A hall built by both sides: the library's store and the Rust's hall.
+pub fn built(scale: u8, floor: &Floor) -> (Vec<u8>, Hall) {
+    let (mut store, measures) = empty(scale, floor);
+    let number = proved::build(measures, &floor.costs, &mut store);
+    assert!(number == 0, "build is {number}");
+    (store, Hall::build(measures, &floor.costs))
+}
+
+/// A store of the floor's size, and the measures.
+fn empty(scale: u8, floor: &Floor) -> (Vec<u8>, [u8; 3]) {
+    let store = vec![0; 4 + 208 * floor.columns * floor.rows];
+    (store, [floor.columns as u8, floor.rows as u8, scale])
+}
+
+fn build(case: &str, scale: u8, floor: &Floor) {
+    let (mut store, measures) = empty(scale, floor);
+    let (mut times, mut scaling) = (Times::default(), vec![]);
+    for _ in 0..BUILDS {
+        let (number, time) = timed(|| proved::build(measures, &floor.costs, &mut store));
+        times.proved.push(time);
+        let (mut hall, time) = timed(|| Hall::build(measures, &floor.costs));
+        times.rust.push(time);
+        scaling.push(timed(|| hall.scale_again()).1);
+        assert!(number == 0 && store == hall.store(), "{case}: other stores");
+    }
+    println!("| {case} | {} | {:.1} µs |", times.cells(), median(scaling));
+}
+
+/// Changes in turn. The Rust panics where 01 has 22, so those are left out.
+fn change(case: &str, scale: u8, floor: &Floor) {
+    let (mut store, mut hall) = built(scale, floor);
+    let mut draw = Draw::new(SEED, scale.into(), Use::Changes);
+    let mut times = Times::default();
+    while times.proved.len() < CHANGES {
+        let cell = draw.below(floor.costs.len());
+        let cost = if store[4 + cell] == 255 { 1 } else { 255 };
+        let (number, time) = timed(|| proved::change(&mut store, cell, cost));
+        if number != 0 {
+            continue;
+        }
+        times.proved.push(time);
+        times.rust.push(timed(|| hall.set_cost(cell, cost)).1);
+    }
+    assert!(store == hall.store(), "{case}: other stores");
+    println!("| {case} | {} | |", times.cells());
+}
+
+/// The library alone: the Rust has no store.
+fn check(case: &str, floor: &Floor) {
+    let (store, _) = built(1, floor);
+    let check = |_| timed(|| proved::check_store(black_box(&store))).1;
+    let times = (0..CHANGES).map(check).collect();
+    println!("| {case} | {:.1} µs | | | |", median(times));
+}

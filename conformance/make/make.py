@@ -1,0 +1,154 @@
+#!/usr/bin/env python3
+"""Makes the conformance cases, ../cases/*.txt, from seeds.
+
+Owed answers are those of the Rust of docs/src (compare answer --router rust). Drawn cases are kept because a wrong
+reading of document 01 (wrong/*.edit) answers them otherwise: for each wrong reading the shortest of those drawn.
+Listed cases come from listed.py. The status is not 0 if a wrong reading passes all cases of its group.
+
+    python3 conformance/make/make.py [FOLDER]     writes into FOLDER, or over ../cases
+"""
+import pathlib
+import subprocess
+import sys
+
+sys.path.insert(0, str(pathlib.Path(__file__).resolve().parent.parent))
+import form
+import drawn
+import listed
+import run
+import wrong
+
+COMPARE = wrong.TOP / "oracle" / "target" / "release" / "compare"
+SCOPE = (wrong.TOP / "docs" / "01-scope.md").read_text(encoding="utf-8").replace("**", "")
+
+
+class Router:
+    """A program that answers calls, kept running."""
+
+    def __init__(self, command):
+        self.process = subprocess.Popen(command, stdin=subprocess.PIPE, stdout=subprocess.PIPE, text=True)
+
+    def ask(self, line):
+        self.process.stdin.write(line + "\n")
+        self.process.stdin.flush()
+        return self.process.stdout.readline().rstrip("\n")
+
+
+def answered(group, name, statements, rust):
+    """A case with the Rust's answers, and the lines that it asks with the answers to them."""
+    case, state, asked = form.Case(group, name), form.State(), []
+    for line in statements:
+        answer = []
+        if line.startswith("input"):
+            answer = program_answer(line)
+        elif not form.prepare(state, line):
+            asked.append((form.call(state, line), rust.ask(form.call(state, line))))
+            answer = form.told(state, line, asked[-1][1])
+            form.follow(state, line, answer)
+        case.statements.append((line, answer))
+    return case, asked
+
+
+def program_answer(line):
+    """What the Rust prints for an input; equal lines in a row are counted."""
+    data = form.with_zeros(line.split()[1:])
+    printed = subprocess.run([COMPARE, "hallroute", "--router", "rust"], input=data, stdout=subprocess.PIPE, check=True).stdout
+    lines = []
+    for text in printed.decode().splitlines():
+        if lines and lines[-1][1] == text:
+            lines[-1][0] += 1
+        else:
+            lines.append([1, text])
+    return [text if count == 1 else f"{count} times {text}" for count, text in lines]
+
+
+def answers_of(program, lines):
+    """The answers of a wrong reading. A line at which it stops is answered by nothing."""
+    answers = []
+    while len(answers) < len(lines):
+        rest = lines[len(answers):]
+        given = run.run([program], "".join(line + "\n" for line in rest).encode()).decode().splitlines()
+        answers += given[:len(rest)]
+        if len(answers) < len(lines):
+            answers.append("")
+    return answers
+
+
+def telling(edit, pool):
+    """The cases of a pool that a wrong reading answers otherwise, the shortest first."""
+    program = wrong.build(edit) / "hallcalls"
+    asked = [pair for _, pairs in pool for pair in pairs]
+    answers = answers_of(program, [line for line, _ in asked])
+    found, at = [], 0
+    for case, pairs in pool:
+        given = answers[at:at + len(pairs)]
+        at += len(pairs)
+        # A store that is only told is not asked for.
+        words = [line.split()[0] for line, _ in case.statements if line.split()[0] in form.TELL]
+        if any(a != owed for (_, owed), a, word in zip(pairs, given, words) if word != "built"):
+            found.append(case)
+    return sorted(found, key=lambda case: len(case.text()))
+
+
+def drawn_cases(group, edits, rust):
+    """For each wrong reading of a group, the shortest of the drawn cases that tell it."""
+    pool = [answered(group, "", statements, rust) for statements in drawn.POOLS[group]()]
+    kept, texts = [], set()
+    for edit in edits:
+        fresh = [case for case in telling(edit, pool) if case.text() not in texts]
+        for case in fresh[:drawn.KEPT.get(group, drawn.USUALLY_KEPT)]:
+            texts.add(case.text())
+            kept.append((case, edit))
+    for case, edit in kept:
+        case.rule, case.against = edit.rule, edit.what
+    return [case for case, _ in kept]
+
+
+def listed_cases(group, rust):
+    found = []
+    for rule, statements in listed.GROUPS[group]():
+        case, _ = answered(group, "", statements, rust)
+        case.rule = rule
+        found.append(case)
+    return found
+
+
+def caught(edit, cases):
+    """How many cases a wrong reading fails."""
+    folder = wrong.build(edit)
+    by_calls = [run.fails_calls(case, [folder / "hallcalls"]) for case in cases if case.by_calls()]
+    by_program = [run.fails_hallroute(case, [folder / "hallroute"]) for case in cases if not case.by_calls()]
+    return sum(failure is not None for failure in by_calls + by_program)
+
+
+def write(group, cases, folder):
+    for at, case in enumerate(cases, 1):
+        case.name = f"{group}-{at:02}"
+        if case.rule not in SCOPE:
+            sys.exit(f"{case.name}: no sentence of document 01: {case.rule}")
+    text = f"# {drawn.ABOUT[group]}\n\n{form.written(cases)}"
+    (folder / f"{group}.txt").write_text(text, encoding="utf-8")
+
+
+def main():
+    folder = pathlib.Path(sys.argv[1] if len(sys.argv) > 1 else run.FOLDER)
+    folder.mkdir(parents=True, exist_ok=True)
+    rust = Router([COMPARE, "answer", "--router", "rust"])
+    missed, total = [], 0
+    for group in drawn.ABOUT:
+        edits = [edit for edit in wrong.all_edits() if edit.group == group]
+        cases = listed_cases(group, rust) if group in listed.GROUPS else []
+        if group in drawn.POOLS:
+            cases += drawn_cases(group, edits, rust)
+        counts = {edit.name: caught(edit, cases) for edit in edits}
+        missed += [name for name, count in counts.items() if not count]
+        write(group, cases, folder)
+        total += len(cases)
+        least = min(counts, key=counts.get)
+        print(f"{group}: {len(cases)} cases, {len(edits)} wrong readings; {least} fails {counts[least]}", flush=True)
+    print(f"{total} cases; wrong readings that no case of their group catches: {', '.join(missed) or 'none'}")
+    return 1 if missed else 0
+
+
+if __name__ == "__main__":
+    sys.exit(main())

@@ -1,0 +1,30 @@
+-- `is_portal` answers by the sector's number and the windows of the mark.
+use native.Mathlib.Omega.{arith}
+use mathlib.Core.Path.{ap, _∙_}
+use Rattle.model.specs.Windows.{windowCount}
+use borrow.Author.Needs.{needs}
+use Rattle.graph.specs.Reading.{no-sector, window-test}
+use Rattle.graph.proofs.portals.is_portal.Statement.{statement}
+use Rattle.graph.proofs.portals.is_portal.Tie as tie
+
+sectors-requires : tie.Need-sectors-requires
+sectors-requires c κs = search needs
+
+returns : tie.Need-returns
+returns c = no-sector (c .before .before .before .pre) (c .before .before .before .args .p) (omega (arith, c .before .sectors .ensures))
+
+mark-of-requires : tie.Need-mark-of-requires
+mark-of-requires c κs = (c .before .before .before .pre, omega (arith, c .before .sectors .ensures))
+
+window-count-requires : tie.Need-window-count-requires
+window-count-requires c κs = search needs
+
+returns-2 : tie.Need-returns-2
+returns-2 c =
+    let start = c .before .before .before .before .before in
+    let mark = c .before .mark-of .ensures in
+    window-test (start .pre) (start .args .p) (c .window-count .result) (omega (arith, c .before .before .before .sectors .ensures)) (c .window-count .ensures .1 (mark .1) ∙ ap windowCount (mark .0))
+
+pub is-portal-spec : {M : Type 1} → statement M
+is-portal-spec =
+    tie.close (tie.spec sectors-requires returns mark-of-requires window-count-requires returns-2)

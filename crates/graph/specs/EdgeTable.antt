@@ -1,0 +1,118 @@
+-- The weights of the portal graph as one list by arc number, and the graph that such a list stands for.
+use Prim.Native.Nat.{ℕ, _+_, _*_, _/_, _%_, _≤_, _<_}
+use native.Mathlib.Nat.{add-zero}
+use native.Mathlib.Omega.{arith}
+use mathlib.Core.Path.{_≡_, refl, sym, ap, subst, _∙_}
+use mathlib.Core.Logic.{_⊎_, inl, inr}
+use mathlib.Core.List.{List, []}
+use lib.ListN.{length, getD, set, length-set, List·getD-eq-default}
+use Rattle.laws.specs.Table.{tabulate, length-tabulate, tabulate-at, Tabled, tabled-more, tabled-all}
+use Rattle.laws.specs.Graph.{Graph, Sound, BothWays, below-or}
+use Rattle.model.specs.declared.Measures.{Measures}
+use Rattle.model.specs.declared.Side.{Side}
+use Rattle.model.specs.Cells.{sideNumber}
+use Rattle.model.specs.Sectors.{sectors}
+use Rattle.model.specs.Halls.{Hall, markAt}
+use Rattle.model.specs.Portals.{facing, headOf, edgesOf, edges, portalGraph}
+use Rattle.model.specs.LeastPathFirst.{Fits, portal-sound}
+use Rattle.model.specs.Store.{measuresAt, marksIn, decode}
+use Rattle.store.specs.Checks.{Checked, few-sectors}
+use Rattle.model.specs.StoreLayout.{decode-laid}
+use Rattle.graph.specs.Across.{portal-both-ways}
+
+-- a hall of these measures with nothing in it: which portals face each other goes by the measures alone
+abbrev pub bare : Measures → Hall
+bare m = record { measures = m; base = []; scaled = []; marks = [] }
+
+-- the weights of a hall's portal graph
+unfoldable pub edgeTable : Hall → List ℕ
+edgeTable h = tabulate (λ e. portalGraph h .weight e) (sectors (h .measures) * 400) 0
+
+-- the graph that has its weights from a list
+abbrev pub tableGraph : Measures → List ℕ → Graph
+tableGraph m table = record {
+  nodes = sectors m * 20;
+  arcs = sectors m * 400;
+  tail = λ e. e / 20;
+  head = λ e. headOf (bare m) (e / 20) (e % 20);
+  weight = λ e. getD table e 0;
+}
+
+-- ---- the graph of the filled table is the portal graph
+pub length-table : (h : Hall) → length (edgeTable h) ≡ sectors (h .measures) * 400
+unfolding edgeTable
+length-table h = length-tabulate (λ e. portalGraph h .weight e) (sectors (h .measures) * 400) 0
+
+pub table-weight : (h : Hall) (e : ℕ) → getD (edgeTable h) e 0 ≡ portalGraph h .weight e
+unfolding edgeTable portalGraph edges
+table-weight h e = go (below-or e (sectors (h .measures) * 400))
+  where
+    go : (e < sectors (h .measures) * 400) ⊎ (sectors (h .measures) * 400 ≤ e) → getD (edgeTable h) e 0 ≡ portalGraph h .weight e
+    go (inl l) = tabulate-at (λ a. portalGraph h .weight a) (sectors (h .measures) * 400) e 0 l
+    go (inr l) =
+        let past : length (tabulate (edgesOf h) (sectors (h .measures) * 20) 0) ≤ e / 20 = omega (arith, length-tabulate (edgesOf h) (sectors (h .measures) * 20) 0) in
+        List·getD-eq-default (edgeTable h) 0 (omega (arith, length-table h)) ∙ sym (ap (λ (row : List ℕ). getD row (e % 20) 0) (List·getD-eq-default (tabulate (edgesOf h) (sectors (h .measures) * 20) 0) [] past))
+
+pub table-graph : (h : Hall) → tableGraph (h .measures) (edgeTable h) ≡ portalGraph h
+unfolding portalGraph headOf facing
+table-graph h = λ i. record {
+  nodes = sectors (h .measures) * 20;
+  arcs = sectors (h .measures) * 400;
+  tail = λ e. e / 20;
+  head = λ e. headOf h (e / 20) (e % 20);
+  weight = λ e. table-weight h e i;
+}
+
+-- ---- filling it
+-- the first n weights stand in the list
+abbrev pub Filled : Hall → ℕ → List ℕ → Type 0
+Filled h n t = Tabled (λ e. portalGraph h .weight e) (sectors (h .measures) * 400) n t
+
+pub filled-at : {f : ℕ → ℕ} {n a b : ℕ} {t : List ℕ} → Tabled f n a t → a ≡ b → Tabled f n b t
+filled-at {f} {n} {t = t} r e = subst (λ (i : ℕ). Tabled f n i t) e r
+
+pub filled-all : (h : Hall) {n : ℕ} {t : List ℕ} → Filled h n t → sectors (h .measures) * 400 ≤ n → t ≡ edgeTable h
+unfolding edgeTable
+filled-all h f l = tabled-all f l
+
+-- the first c places of number p hold what g says: if the list was as a rule has it up to them, and g is that rule there, then it is as the rule has it up to their end
+pub record Row (g : ℕ → ℕ) (p c : ℕ) (t₀ t : List ℕ) : Type 0 where
+  pub within : c ≤ 20
+  pub long : length t ≡ length t₀
+  pub grown : (f : ℕ → ℕ) (n : ℕ) → Tabled f n (p * 20) t₀ → ((k : ℕ) → k < 20 → g k ≡ f (p * 20 + k)) → Tabled f n (p * 20 + c) t
+
+pub row-none : (g : ℕ → ℕ) (p : ℕ) (t : List ℕ) → Row g p 0 t t
+row-none g p t = record { within = omega arith; long = refl; grown = λ f n r _. rw (add-zero (p * 20)) r }
+
+pub row-more : {g : ℕ → ℕ} {p c w : ℕ} {t₀ t : List ℕ} → Row g p c t₀ t → c < 20 → p * 20 + 20 ≤ length t₀ → w ≡ g c → Row g p (c + 1) t₀ (set t (p * 20 + c) w)
+row-more {g} {p} {c} {w} {t₀} {t} row l k e =
+    let sum : p * 20 + (c + 1) ≡ p * 20 + c + 1 = omega arith in
+    record {
+      within = omega arith;
+      long = length-set t (p * 20 + c) w ∙ row .long;
+      grown = λ f n r same. rw sum (tabled-more (row .grown f n r same) (omega (arith, r .long)) (e ∙ same c l));
+    }
+
+pub row-all : {g : ℕ → ℕ} {p c : ℕ} {t₀ t : List ℕ} → Row g p c t₀ t → 20 ≤ c → Row g p 20 t₀ t
+row-all {g} {p} {c} {t₀} {t} row l = subst (λ (k : ℕ). Row g p k t₀ t) (omega (arith, row .within)) row
+
+-- ---- a store that passes the check
+-- what every function below is given: a store that passes, and its measures
+pub record Opened (m : Measures) (st : List ℕ) : Type 0 where
+  pub passes : Checked st
+  pub read : m ≡ measuresAt st
+
+pub checked-fits : {st : List ℕ} → Checked st → Fits (decode st)
+unfolding decode
+checked-fits {st} ok = record { small = few-sectors (ok .sides); marked = λ s side. go s side (below-or (s * 4 + sideNumber side) (sectors (measuresAt st) * 4)) }
+  where
+    go : (s : ℕ) (side : Side) → (s * 4 + sideNumber side < sectors (measuresAt st) * 4) ⊎ (sectors (measuresAt st) * 4 ≤ s * 4 + sideNumber side) → markAt (decode st) s side < 1024
+    go s side (inl l) = omega (arith, ok .small-marks (s * 4 + sideNumber side) l)
+    go s side (inr l) = omega (arith, List·getD-eq-default (marksIn (measuresAt st) st) 0 {n = s * 4 + sideNumber side} (omega (arith, decode-laid st (ok .room) .marks-sides)))
+
+-- the table of such a store stands for a graph that can be searched from its end
+pub table-sound : (h : Hall) → Sound (tableGraph (h .measures) (edgeTable h))
+table-sound h = rw (table-graph h) (portal-sound h)
+
+pub table-both-ways : {h : Hall} → Fits h → BothWays (tableGraph (h .measures) (edgeTable h))
+table-both-ways {h} fits = subst (λ (g : Graph). BothWays g) (sym (table-graph h)) (portal-both-ways h fits)

@@ -1,0 +1,87 @@
+-- What a store that passes the check shows of its portals: sizes, marks, and windows with their places.
+use Prim.Native.Nat.{ℕ, _+_, _*_, _/_, _%_, _≤_, _<_}
+use native.Mathlib.Omega.{arith}
+use mathlib.Core.Path.{_≡_, refl, sym}
+use mathlib.Core.Bool.{true, false}
+use mathlib.Core.List.{List}
+use lib.Dec.{ltb}
+use lib.ListN.{length}
+use borrow.Author.Tests.{lt-ltb, le-ltb}
+use Rattle.model.specs.declared.Measures.{Measures}
+use Rattle.model.specs.declared.Side.{Side}
+use Rattle.model.specs.declared.Side.the-variants.{North, East, South, West}
+use Rattle.model.specs.Cells.{sideNumber, sideAt}
+use Rattle.model.specs.Sectors.{sectors, cells, beyond}
+use Rattle.model.specs.Windows.{windowCount, firstPlace, lastPlace}
+use Rattle.model.specs.WindowRuns.{Run, window-run}
+use Rattle.model.specs.Portals.{portalMark, isPortal}
+use Rattle.model.specs.LeastPathFirst.{Fits}
+use Rattle.model.specs.Store.{u16At, measuresAt, sizeOf, decode}
+use Rattle.store.specs.Checks.{few-sectors}
+use Rattle.model.specs.StoreLayout.{marks-at}
+use Rattle.portal.specs.declared.runs.OpenRun.{OpenRun}
+use Rattle.portal.specs.Runs.{placesOf}
+use Rattle.graph.specs.Across.{number-side, portal-of}
+use Rattle.graph.specs.EdgeTable.{Opened, checked-fits}
+
+-- how large the measures are
+pub record Few (m : Measures) (size : ℕ) : Type 0 where
+  pub few : sectors m ≤ 100
+  pub some-rows : 1 ≤ m .rows
+  pub few-rows : m .rows ≤ 10
+  pub room : sizeOf m ≤ size
+
+-- a window's first and last place, as they were found
+pub record Places (mark j : ℕ) (w : OpenRun) : Type 0 where
+  pub begins : w .«first» ≡ firstPlace mark j
+  pub ends : w .last ≡ lastPlace mark j
+  pub low-first : w .«first» < 10
+  pub low-last : w .last < 10
+
+pub beyond-low : (m : Measures) (s : ℕ) (side : Side) → beyond m s side ≤ s + m .rows + 1
+unfolding beyond
+beyond-low m s North = omega arith
+beyond-low m s East = omega arith
+beyond-low m s South = omega arith
+beyond-low m s West = omega arith
+
+module _ {m : Measures} {st : List ℕ} (o : Opened m st) where
+  pub measures-are : decode st .measures ≡ m
+  unfolding decode
+  measures-are = sym (o .read)
+
+  pub few-of : Few m (length st)
+  few-of = rw (o .read) (record { few = few-sectors (o .passes .sides); some-rows = o .passes .sides .some-rows; few-rows = o .passes .sides .few-rows; room = o .passes .room })
+
+  pub fits-of : Fits (decode st)
+  fits-of = checked-fits (o .passes)
+
+  -- the mark of a portal's side
+  pub mark-read : (p : ℕ) → p / 20 < sectors m → u16At st (4 + 2 * cells m + 2 * (p / 5)) ≡ portalMark (decode st) p
+  mark-read p =
+      let place : p / 20 * 4 + sideNumber (sideAt (p % 20 / 5)) ≡ p / 5 = omega (arith, number-side (p % 20 / 5) (omega arith)) in
+      rw (o .read, place) (λ l. sym (marks-at st (p / 5) (omega arith)))
+
+  pub mark-low : (p : ℕ) → portalMark (decode st) p ≤ 1023
+  mark-low p = omega (arith, fits-of .marked (p / 20) (sideAt (p % 20 / 5)))
+
+  pub no-sector : (p : ℕ) → sectors m ≤ p / 20 → false ≡ isPortal (decode st) p
+  unfolding isPortal decode
+  no-sector p = rw (o .read) (λ l. rw (le-ltb (p / 20) (sectors (measuresAt st)) l))
+
+  pub window-test : (p n : ℕ) → p / 20 < sectors m → n ≡ windowCount (portalMark (decode st) p) → ltb (p % 5) n ≡ isPortal (decode st) p
+  unfolding isPortal decode
+  window-test p n = rw (o .read) (λ l e. rw (lt-ltb (p / 20) (sectors (measuresAt st)) l, e))
+
+  -- a portal's sector, and its window with first and last place
+  pub portal-sector : (p : ℕ) → isPortal (decode st) p ≡ true → p / 20 < sectors m
+  portal-sector p e = rw (← measures-are) (portal-of (decode st) p e .inside)
+
+  pub portal-run : (p : ℕ) → isPortal (decode st) p ≡ true → Run (portalMark (decode st) p) (p % 5)
+  portal-run p e = window-run (portalMark (decode st) p) (fits-of .marked (p / 20) (sideAt (p % 20 / 5))) (p % 5) (portal-of (decode st) p e .among)
+
+  -- the places that were found of a portal's window
+  pub places-of : (p : ℕ) → isPortal (decode st) p ≡ true → {n : ℕ} {w : OpenRun} → n ≡ portalMark (decode st) p → w ≡ placesOf n (p % 5) → Places (portalMark (decode st) p) (p % 5) w
+  places-of p e q f =
+      let run = portal-run p e in
+      rw (f, q) (record { begins = refl; ends = refl; low-first = omega (arith, run .ordered, run .inside); low-last = run .inside })

@@ -1,0 +1,133 @@
+-- The edges of a portal in the cases that code meets, and that they are the graph's weights.
+use Prim.Native.Nat.{ℕ, _+_, _*_, _/_, _%_, _≤_, _<_}
+use native.Mathlib.Omega.{arith}
+use mathlib.Core.Path.{_≡_, refl, sym, ap, _∙_}
+use mathlib.Core.Bool.{Bool, true, false, _&&_}
+use mathlib.Core.List.{List}
+use lib.Dec.{ltb, eqb}
+use lib.ListN.{length, getD}
+use lib.Seq.{ext-getD}
+use borrow.Author.Tests.{lt-ltb, eq-eqb, ne-eqb}
+use Rattle.laws.specs.Fold.{pick}
+use Rattle.laws.specs.Table.{length-tabulate, table-at}
+use Rattle.laws.specs.Region.{region, length-region, getD-region}
+use Rattle.model.specs.declared.Measures.{Measures}
+use Rattle.model.specs.declared.Side.{Side}
+use Rattle.model.specs.Cells.{sideAt}
+use Rattle.model.specs.Sectors.{sectors, cells, sectorOf, placeOf, costsOf, hasBeyond}
+use Rattle.model.specs.Moves.{moves, apart}
+use Rattle.model.specs.Halls.{Hall}
+use Rattle.model.specs.Portals.{isPortal, midpoint, facing, headOf, key, outerEdge, innerEdge, edgeAt, portalGraph}
+use Rattle.model.specs.LeastPathFirst.{Fits, weight-at}
+use Rattle.model.specs.Store.{measuresAt, decode}
+use Rattle.model.specs.StoreLayout.{decode-laid, scaled-at}
+use Rattle.graph.specs.Across.{portal-of, midpoint-low, movesFrom}
+use Rattle.graph.specs.EdgeTable.{Opened, bare}
+use Rattle.graph.specs.Near.{midOf, sectorMids, nearBy, mid-some, mid-none}
+
+-- the edge to the facing portal q: x says whether there is a sector beyond, y whether q is a portal
+pub outer-is : {m : Measures} {st : List ℕ} → Opened m st → (p : ℕ) (x y : Bool) {side : Side} {b d : Bool} {q : ℕ} → side ≡ sideAt (p % 20 / 5) → b ≡ hasBeyond m (p / 20) side → b ≡ x → q ≡ facing (bare m) p → d ≡ isPortal (decode st) q → d ≡ y → pick (x && y) (key 1) 0 ≡ outerEdge (decode st) p
+unfolding outerEdge facing decode
+outer-is o p x y e f b g k d = rw (← b, ← d, k, g, f, e, o .read) refl
+
+-- the portal to which place c of portal p leads
+module _ (h : Hall) (p c : ℕ) {q : ℕ} where
+  pub head-own : c ≡ p % 20 → q ≡ facing h p → q ≡ headOf h p c
+  unfolding headOf
+  head-own e f = rw (eq-eqb c (p % 20) e) f
+
+  pub head-other : (c ≡ p % 20 → ⊥) → q ≡ p / 20 * 20 + c → q ≡ headOf h p c
+  unfolding headOf
+  head-other e f = rw (ne-eqb c (p % 20) e) f
+
+-- ---- the edges of a portal as code finds them: the moves from its midpoint are spread once, the midpoints of its sector are known
+-- the edge at place c, which has midpoint `mid`; at the portal's own place stands the edge to the facing one
+unfoldable pub edgeBy : List ℕ → ℕ → ℕ → ℕ → ℕ → ℕ
+edgeBy from mid outer own c = pick (eqb c own) outer (pick (ltb (nearBy from mid) apart) (key (nearBy from mid)) 0)
+
+module _ (from : List ℕ) (mid outer own c : ℕ) where
+  pub edge-own : c ≡ own → outer ≡ edgeBy from mid outer own c
+  unfolding edgeBy
+  edge-own e = rw (eq-eqb c own e)
+
+  module _ (e : c ≡ own → ⊥) {near : ℕ} (at : near ≡ nearBy from mid) where
+    pub edge-far : near ≡ 255 → 0 ≡ edgeBy from mid outer own c
+    unfolding edgeBy
+    edge-far z = rw (ne-eqb c own e, ← at, z) refl
+
+    pub edge-near : near < 255 → key near ≡ edgeBy from mid outer own c
+    unfolding edgeBy
+    edge-near l = rw (ne-eqb c own e, ← at, lt-ltb near apart l)
+
+inner-by : (h : Hall) → Fits h → (from : List ℕ) (q : ℕ) → pick (ltb (nearBy from (midOf h q)) apart) (key (nearBy from (midOf h q))) 0 ≡ innerEdge h from q
+unfolding innerEdge midOf nearBy
+inner-by h fits from q = go (isPortal h q) refl
+  where
+    go : (t : Bool) → isPortal h q ≡ t → pick (ltb (nearBy from (midOf h q)) apart) (key (nearBy from (midOf h q))) 0 ≡ innerEdge h from q
+    go true e = rw (e, lt-ltb (midpoint h q) 100 (midpoint-low h fits q (portal-of h q e)))
+    go false e = rw e refl
+
+-- what the midpoints of its sector say of number p
+module _ (h : Hall) (p : ℕ) {mids : List ℕ} (given : mids ≡ sectorMids h (p / 20)) where
+  pub mids-long : length mids ≡ 20
+  unfolding sectorMids
+  mids-long = rw given (length-tabulate (λ k. midOf h (p / 20 * 20 + k)) 20 0)
+
+  place-mid : (c : ℕ) → c < 20 → getD mids c 0 ≡ midOf h (p / 20 * 20 + c)
+  unfolding sectorMids
+  place-mid c l = table-at (λ k. midOf h (p / 20 * 20 + k)) 20 given c 0 l
+
+  own-mid : getD mids (p % 20) 0 ≡ midOf h p
+  own-mid = let same : p / 20 * 20 + p % 20 ≡ p = omega arith in place-mid (p % 20) (omega arith) ∙ ap (λ (k : ℕ). midOf h k) same
+
+  pub own-none : Fits h → 100 ≤ getD mids (p % 20) 0 → isPortal h p ≡ false
+  own-none fits l = go (isPortal h p) refl
+    where
+      go : (t : Bool) → isPortal h p ≡ t → isPortal h p ≡ false
+      go true e = absurd (omega (arith, own-mid, mid-some h p e refl, midpoint-low h fits p (portal-of h p e)))
+      go false e = e
+
+  pub own-some : getD mids (p % 20) 0 < 100 → (isPortal h p ≡ true) × (getD mids (p % 20) 0 ≡ midpoint h p)
+  own-some l = go (isPortal h p) refl
+    where
+      go : (t : Bool) → isPortal h p ≡ t → (isPortal h p ≡ true) × (getD mids (p % 20) 0 ≡ midpoint h p)
+      go true e = (e, own-mid ∙ sym (mid-some h p e refl))
+      go false e = absurd (omega (arith, own-mid, mid-none h p e))
+
+-- the moves from a cell that is its midpoint
+pub moves-own : (h : Hall) (p mid : ℕ) {x : ℕ} {from : List ℕ} → x ≡ p / 20 * 100 + mid → mid ≡ midpoint h p → mid < 100 → from ≡ moves (costsOf (h .scaled) (sectorOf x)) (placeOf x) → from ≡ movesFrom h p
+moves-own h p mid {x} a b l e =
+    let sector : x / 100 ≡ p / 20 = omega arith in
+    let place : x % 100 ≡ midpoint h p = omega arith in
+    e ∙ rw (sector, place) refl
+
+-- the graph's weight at place c of number p
+module _ (h : Hall) (p c : ℕ) (low : c < 20) (inside : p * 20 + c < sectors (h .measures) * 400) where
+  weight-is : portalGraph h .weight (p * 20 + c) ≡ pick (isPortal h p) (edgeAt h p (movesFrom h p) c) 0
+  weight-is =
+      let tail : (p * 20 + c) / 20 ≡ p = omega arith in
+      let place : (p * 20 + c) % 20 ≡ c = omega arith in
+      let in-arcs : p * 20 + c < portalGraph h .arcs = unfold portalGraph in inside in
+      rw (tail, place) at (weight-at h (p * 20 + c) in-arcs)
+
+  pub weight-none : isPortal h p ≡ false → 0 ≡ portalGraph h .weight (p * 20 + c)
+  weight-none e = sym (weight-is ∙ rw e refl)
+
+  pub weight-by : Fits h → {from mids : List ℕ} {outer : ℕ} → isPortal h p ≡ true → from ≡ movesFrom h p → mids ≡ sectorMids h (p / 20) → outer ≡ outerEdge h p → edgeBy from (getD mids c 0) outer (p % 20) c ≡ portalGraph h .weight (p * 20 + c)
+  unfolding edgeBy edgeAt
+  weight-by fits e f g o = rw (place-mid h p g c low, f, o, inner-by h fits (movesFrom h p) (p / 20 * 20 + c)) (sym (weight-is ∙ rw e refl))
+
+-- the scaled costs of a sector, where the store has them
+pub costs-read : {m : Measures} {st : List ℕ} → Opened m st → (s : ℕ) → s < sectors m → region (4 + cells m + s * 100) 100 st ≡ costsOf (decode st .scaled) s
+costs-read {m} {st} o s = rw (o .read) (λ l.
+    let n = measuresAt st in
+    let long : length (decode st .scaled) ≡ cells n = unfold decode in decode-laid st (o .passes .room) .scaled-cells in
+    let fits : s * 100 + 100 ≤ length (decode st .scaled) = omega arith in
+    ext-getD 0 (region (4 + cells n + s * 100) 100 st) (costsOf (decode st .scaled) s)
+    (length-region (4 + cells n + s * 100) 100 st (omega (arith, o .passes .room)) ∙ sym (length-region (s * 100) 100 (decode st .scaled) fits))
+    (λ i k.
+    let low : i < 100 = omega (arith, length-region (4 + cells n + s * 100) 100 st (omega (arith, o .passes .room))) in
+    getD-region (4 + cells n + s * 100) 100 st i low ∙ ap (λ (j : ℕ). getD st j 0) (sum (cells n) (s * 100) i) ∙ sym (getD-region (s * 100) 100 (decode st .scaled) i low ∙ scaled-at st (s * 100 + i) (omega arith))))
+  where
+    sum : (a b i : ℕ) → 4 + a + b + i ≡ 4 + a + (b + i)
+    sum a b i = omega arith

@@ -1,0 +1,90 @@
+// Moves between a cell and the portals of its sector.
+ghost use mathlib.Core.Path.{_≡_};
+ghost use Prim.Native.Nat.{_*_, _/_, _%_, _≤_, _<_};
+ghost use lib.ListN.{length, getD};
+ghost use Rattle.laws.specs.Fold.{pick};
+ghost use Rattle.model.specs.Sectors.{cells, sectorOf, placeOf, costsOf};
+ghost use Rattle.model.specs.Moves.{moves, movesTo, joined, apart};
+ghost use Rattle.model.specs.Store.{decode};
+ghost use Rattle.graph.specs.EdgeTable.{Opened};
+ghost use Rattle.graph.specs.Near.{midOf, sectorMids, nearBy, portalMoves};
+use crate::portals::is_portal;
+use crate::portals::midpoint;
+use fields::numbers::byte;
+use fields::numbers::wide;
+use fields::sectors::cells;
+use model::Measures;
+use portal::moves::spread;
+
+// The index of a portal's midpoint, or 100 where the number is no portal's.
+fn mid_of(st: &[u8], m: Measures, p: usize) -> u8
+    requires { ⌜ Opened m (now st) ⌝ }
+    ensures { λ r. ⌜ r ≡ midOf (decode (now (st .entry))) p ⌝ }
+{
+    if is_portal(st, m, p) {
+        return byte(midpoint(st, m, p));
+    }
+    100
+}
+
+// The midpoints of sector s by place.
+pub fn sector_mids(st: &[u8], m: Measures, s: usize, mids: &mut [u8])
+    requires { ⌜ Opened m (now st) × (s ≤ 100) × (length (now mids) ≡ 20) ⌝ }
+    ensures { λ _. ⌜ now (mids .exit) ≡ sectorMids (decode (now (st .entry))) s ⌝ }
+{
+    let mut c = 0;
+    while c < 20 {
+        mids[c] = mid_of(st, m, s * 20 + c);
+        c += 1;
+    }
+}
+
+// The moves to a midpoint, or 255 where there is none.
+pub fn near_by(from: &[u8], mid: u8) -> u8
+    requires { ⌜ length (now from) ≡ 100 ⌝ }
+    ensures { λ r. ⌜ r ≡ nearBy (now (from .entry)) mid ⌝ }
+{
+    if 100 <= mid {
+        return 255;
+    }
+    from[wide(mid)]
+}
+
+// The moves from cell x to the cells of its sector.
+pub fn moves_from(st: &[u8], m: Measures, x: usize, from: &mut [u8])
+    requires { ⌜ Opened m (now st) × (x < cells m) × (length (now from) ≡ 100) ⌝ }
+    ensures { λ _. ⌜ now (from .exit) ≡ moves (costsOf (decode (now (st .entry)) .scaled) (sectorOf x)) (placeOf x) ⌝ }
+{
+    let start = 4 + cells(m) + x / 100 * 100;
+    let end = start + 100;
+    spread(&st[start..end], x % 100, from);
+}
+
+// The fewest moves from one cell to another, or 255 where they are not joined.
+pub fn moves_to(st: &[u8], m: Measures, x: usize, y: usize) -> u8
+    requires { ⌜ Opened m (now st) × (x < cells m) ⌝ }
+    ensures { λ r. ⌜ r ≡ pick (joined (decode (now (st .entry)) .scaled) x y) (movesTo (decode (now (st .entry)) .scaled) x y) apart ⌝ }
+{
+    if x / 100 != y / 100 {
+        return 255;
+    }
+    let mut from: [u8; 100] = [255; 100];
+    moves_from(st, m, x, &mut from);
+    from[y % 100]
+}
+
+// The moves from cell x to the portals of its sector by place, and 255 where there are none or the place has no portal.
+pub fn portal_moves(st: &[u8], m: Measures, x: usize, near: &mut [u8])
+    requires { ⌜ Opened m (now st) × (x < cells m) × (length (now near) ≡ 20) ⌝ }
+    ensures { λ _. ⌜ now (near .exit) ≡ portalMoves (decode (now (st .entry))) x ⌝ }
+{
+    let mut from: [u8; 100] = [255; 100];
+    let mut mids: [u8; 20] = [100; 20];
+    moves_from(st, m, x, &mut from);
+    sector_mids(st, m, x / 100, &mut mids);
+    let mut c = 0;
+    while c < 20 {
+        near[c] = near_by(&from, mids[c]);
+        c += 1;
+    }
+}

@@ -1,0 +1,59 @@
+-- What route answers and leaves in the list, in the shapes of its returns.
+use mathlib.Core.Path.{_≡_, sym, ap, _∙_}
+use mathlib.Core.List.{List}
+use Prim.Native.Nat.{ℕ, zero, suc, _/_, _≤_, _<_}
+use native.Mathlib.Omega.{arith}
+use lib.Dec.{leb}
+use lib.ListN.{length}
+use borrow.Author.Tests.{le-leb, lt-leb}
+use Rattle.laws.specs.Ladder.{refuse}
+use Rattle.model.specs.declared.Measures.{Measures}
+use Rattle.model.specs.declared.Routed.{Routed}
+use Rattle.model.specs.declared.Routed.the-variants.{Refused}
+use Rattle.model.specs.Sectors.{cells}
+use Rattle.model.specs.Store.{measuresAt, decode}
+use Rattle.model.specs.Route.{routeOf}
+use Rattle.model.specs.Calls.{orElse, ifAccepted, checkNumber, foundNumber, routeNumber, routed, routeAnswer, routeFlat}
+use Rattle.graph.specs.EdgeTable.{Opened}
+use Rattle.route.specs.Finding.{roomNumber, foundAnswer, foundInto}
+use Rattle.hall.proofs.Passed.{refused-first, none, passed}
+
+-- a store that passed the check is opened by its measures
+pub opened : {st : List ℕ} {r : ℕ} {m : Measures} → r ≡ checkNumber st → r ≤ 0 → m ≡ measuresAt st → Opened m st
+opened is z read = record { passes = passed is z; read = read }
+
+module _ (st : List ℕ) (source goal : ℕ) (list : List ℕ) where
+  -- what a number answers, and that it leaves the list
+  refused : (n : ℕ) → 0 < n → n ≡ routeNumber st source goal (length list / 6) → (Refused n ≡ routeAnswer st source goal (length list / 6)) × (list ≡ routeFlat st source goal list)
+  unfolding routeAnswer routeFlat routed ifAccepted
+  refused zero h e = absurd (omega arith)
+  refused (suc n) h e = (rw (← e), rw (← e))
+
+  module _ {r : ℕ} (is : r ≡ checkNumber st) where
+    pub refused-store : 0 < r → (Refused r ≡ routeAnswer st source goal (length list / 6)) × (list ≡ routeFlat st source goal list)
+    unfolding routeNumber
+    refused-store h = refused r h (rw (← is) (refused-first r _ h))
+
+    module _ (z : r ≤ 0) {m : Measures} (read : m ≡ measuresAt st) {size : ℕ} (all : size ≡ cells m) where
+      past : routeNumber st source goal (length list / 6) ≡ refuse (leb size source) 23 (refuse (leb size goal) 24 (roomNumber (length list / 6) (routeOf (decode st) source goal)))
+      unfolding routeNumber foundNumber orElse decode
+      past = let e : size ≡ cells (measuresAt st) = all ∙ ap cells read in rw (← is, none z, e)
+
+      pub refused-23 : size ≤ source → (Refused 23 ≡ routeAnswer st source goal (length list / 6)) × (list ≡ routeFlat st source goal list)
+      unfolding refuse
+      refused-23 h = refused 23 (omega arith) (sym (past ∙ rw (le-leb size source h)))
+
+      module _ (from : source < size) where
+        pub refused-24 : size ≤ goal → (Refused 24 ≡ routeAnswer st source goal (length list / 6)) × (list ≡ routeFlat st source goal list)
+        unfolding refuse
+        refused-24 h = refused 24 (omega arith) (sym (past ∙ rw (lt-leb size source from, le-leb size goal h)))
+
+        module _ (to : goal < size) where
+          last : routeNumber st source goal (length list / 6) ≡ roomNumber (length list / 6) (routeOf (decode st) source goal)
+          unfolding refuse
+          last = past ∙ rw (lt-leb size source from, lt-leb size goal to)
+
+          pub routed-all : {answer : Routed} {out : List ℕ} → answer ≡ foundAnswer (length list / 6) (routeOf (decode st) source goal) → out ≡ foundInto (routeOf (decode st) source goal) list
+              → (answer ≡ routeAnswer st source goal (length list / 6)) × (out ≡ routeFlat st source goal list)
+          unfolding routeAnswer routeFlat foundAnswer foundInto
+          routed-all a o = (rw last a, rw last o)

@@ -1,0 +1,57 @@
+-- `route` answers and lists as a route does: each return goes by what the tests before it found.
+use Rattle.hall.proofs.Passed.{passing}
+use Rattle.hall.proofs.RouteAnswers.{refused-store, refused-23, refused-24, opened, routed-all}
+use borrow.Author.Needs.{needs}
+use Rattle.hall.proofs.routing.route.Statement.{statement}
+use Rattle.hall.proofs.routing.route.Tie as tie
+
+check-store-requires : tie.Need-check-store-requires
+check-store-requires c κs = search needs
+
+returns : tie.Need-returns
+returns c = refused-store _ _ _ _ (c .before .check-store .ensures) (c .if1 .taken)
+
+measures-at-requires : tie.Need-measures-at-requires
+measures-at-requires c κs = search (needs, passing)
+
+cells-requires : tie.Need-cells-requires
+cells-requires c κs = search needs
+
+returns-2 : tie.Need-returns-2
+returns-2 c =
+    let m = c .before .before in
+    refused-23 _ _ _ _ (m .before .before .check-store .ensures) (m .before .if1 .left) (m .measures-at .ensures) (c .before .cells .ensures) (c .if2 .taken)
+
+returns-3 : tie.Need-returns-3
+returns-3 c =
+    let n = c .before .before in
+    let m = n .before in
+    refused-24 _ _ _ _ (m .before .before .check-store .ensures) (m .before .if1 .left) (m .measures-at .ensures) (n .cells .ensures) (c .before .if2 .left) (c .if3 .taken)
+
+find-path-requires : tie.Need-find-path-requires
+find-path-requires c κs = search (needs, opened)
+
+same-length : tie.Need-same-length
+same-length c = search needs
+
+returns-4 : tie.Need-returns-4
+returns-4 c =
+    let f = c .before .before in
+    let e = f .before .before in
+    let n = e .before .before in
+    let m = n .before in
+    routed-all _ _ _ _ (m .before .before .check-store .ensures) (m .before .if1 .left) (m .measures-at .ensures) (n .cells .ensures) (e .before .if2 .left) (e .if3 .left) (f .find-path .ensures .0) (f .find-path .ensures .1)
+
+pub route-spec : {M : Type 1} → statement M
+route-spec =
+    tie.close
+    (tie.spec
+    check-store-requires
+    returns
+    measures-at-requires
+    cells-requires
+    returns-2
+    returns-3
+    find-path-requires
+    same-length
+    returns-4)

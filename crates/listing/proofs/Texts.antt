@@ -1,0 +1,84 @@
+-- Facts for the proofs of the texts: a text byte by byte, and the texts of single letters.
+use mathlib.Core.Path.{_≡_, refl}
+use mathlib.Core.List.{List, [], _∷_, _++_}
+use Prim.Native.Nat.{ℕ, zero, suc, _+_, _≤_, _<_}
+use native.Mathlib.Numerals.{add-one}
+use native.Mathlib.Omega.{arith}
+use lib.ListN.{length, take, getD, set}
+use lib.Seq.{take-suc, take-all}
+use Rattle.laws.specs.Table.{tabulate}
+use Rattle.model.specs.Listing.{text, sideLetter}
+use Rattle.listing.specs.Written.{Wrote, wrote-none, wrote-byte, wrote-on, wrote-length, wrote-same}
+
+-- ---- a text byte by byte
+pub record Copied (text : List ℕ) (a k : ℕ) (xs t : List ℕ) : Type 0 where
+  pub within : k ≤ length text
+  pub same : length t ≡ length xs
+  pub wrote : Wrote (take k text) a (a + k) xs t
+
+pub copy-none : (text : List ℕ) (a : ℕ) (xs : List ℕ) → a + length text ≤ length xs → Copied text a 0 xs xs
+copy-none text a xs h = record { within = omega arith; same = refl; wrote = wrote-same refl (omega arith) (wrote-none a xs (omega arith)) }
+
+pub copy-turn : {text : List ℕ} {a k : ℕ} {xs t : List ℕ} → Copied text a k xs t → k < length text → a + length text ≤ length xs → Copied text a (k + 1) xs (set t (a + k) (getD text k 0))
+copy-turn {text} {a} {k} {xs} {t} r h room =
+    let fits : a + k < length t = omega (arith, r .same) in
+    let longer : take k text ++ (getD text k 0 ∷ []) ≡ take (k + 1) text = rw (add-one, take-suc text k 0) in
+    let next : a + k + 1 ≡ a + (k + 1) = omega arith in
+    let more = wrote-same longer next (wrote-on (r .wrote) (wrote-byte (getD text k 0) (a + k) t fits)) in
+    record { within = omega arith; same = wrote-length more; wrote = more }
+
+pub copy-end : {text : List ℕ} {a k : ℕ} {xs t : List ℕ} → Copied text a k xs t → length text ≤ k → Wrote text a (a + length text) xs t
+copy-end {text} {a} {k} r h = wrote-same (take-all k text h) (omega (arith, r .within)) (r .wrote)
+
+pub ruleset copying = (copy-none, copy-turn, copy-end)
+
+-- ---- single letters
+pub letter-0 : {n : ℕ} → n ≡ 0 → 78 ∷ [] ≡ sideLetter n
+unfolding tabulate
+letter-0 e = rw e
+
+pub letter-1 : {n : ℕ} → n ≡ 1 → 69 ∷ [] ≡ sideLetter n
+unfolding tabulate
+letter-1 e = rw e
+
+pub letter-2 : {n : ℕ} → n ≡ 2 → 83 ∷ [] ≡ sideLetter n
+unfolding tabulate
+letter-2 e = rw e
+
+pub letter-3 : (n : ℕ) → (n ≡ 0 → ⊥) → (n ≡ 1 → ⊥) → (n ≡ 2 → ⊥) → 87 ∷ [] ≡ sideLetter n
+unfolding tabulate
+letter-3 zero e f g = absurd (e refl)
+letter-3 (suc zero) e f g = absurd (f refl)
+letter-3 (suc (suc zero)) e f g = absurd (g refl)
+letter-3 (suc (suc (suc n))) e f g = refl
+
+pub ruleset letters = (letter-0, letter-1, letter-2, letter-3)
+
+pub space : 32 ∷ [] ≡ text " "
+unfolding tabulate
+space = refl
+
+pub comma : 44 ∷ [] ≡ text ","
+unfolding tabulate
+comma = refl
+
+pub colon : 58 ∷ [] ≡ text ":"
+unfolding tabulate
+colon = refl
+
+pub dash : 45 ∷ [] ≡ text "-"
+unfolding tabulate
+dash = refl
+
+pub newline : 10 ∷ [] ≡ text "\n"
+unfolding tabulate
+newline = refl
+
+-- ---- a byte that is a letter's text, alone and before more
+pub byte-last : {t : List ℕ} {b a z : ℕ} {xs ys : List ℕ} → b ∷ [] ≡ t → Wrote (b ∷ []) a z xs ys → Wrote t a z xs ys
+byte-last e w = wrote-same e refl w
+
+pub byte-on : {t u : List ℕ} {b a m z : ℕ} {xs ys zs : List ℕ} → b ∷ [] ≡ t → Wrote (b ∷ []) a m xs ys → Wrote u m z ys zs → Wrote (t ++ u) a z xs zs
+byte-on e v w = wrote-on (byte-last e v) w
+
+pub ruleset writing = (wrote-on, byte-last, byte-on, space, comma, colon, dash, newline)

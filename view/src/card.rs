@@ -1,0 +1,127 @@
+//! A route's card.
+
+use crate::floor::CELLS;
+use crate::hall::{Hall, Window};
+
+/// The most steps that a card has.
+const MOST_STEPS: usize = 1_001;
+/// Bytes of a step in the flat list: column, row, goal, side, first cell, last cell.
+const STEP: usize = 6;
+/// The side of a step without window.
+const NO_WINDOW: u8 = 4;
+
+const LETTERS: [char; 4] = ['N', 'E', 'S', 'W'];
+const NAMES: [&str; 4] = ["north", "east", "south", "west"];
+
+/// One step: the cell to reach in a sector, and the window to leave by.
+#[derive(Debug, Clone, Copy, PartialEq, Eq)]
+pub struct Step {
+    pub sector: (usize, usize),
+    pub goal: usize,
+    pub window: Option<Window>,
+}
+
+/// What the route call answers.
+#[derive(Debug, Clone, PartialEq, Eq)]
+pub enum Answer {
+    Refused(u8),
+    None,
+    Route {
+        steps: Vec<Step>,
+        leg: u32,
+        run: u32,
+    },
+}
+
+/// A pair of floor numbers and the answer to it.
+#[derive(Debug, Clone, PartialEq, Eq)]
+pub struct Card {
+    pub source: usize,
+    pub goal: usize,
+    pub answer: Answer,
+}
+
+impl Card {
+    /// The card of a pair.
+    pub fn of(hall: &Hall, source: usize, goal: usize) -> Card {
+        let mut list = vec![0; STEP * MOST_STEPS];
+        let found = proved::route(&hall.store, source, goal, &mut list);
+        let answer = match (found.number, found.steps as usize) {
+            (0, 0) => Answer::None,
+            (0, count) => Answer::Route {
+                steps: list.chunks_exact(STEP).take(count).map(step).collect(),
+                leg: found.leg,
+                run: found.run,
+            },
+            (number, _) => Answer::Refused(number),
+        };
+        Card {
+            source,
+            goal,
+            answer,
+        }
+    }
+
+    /// The steps, none if there is no route.
+    pub fn steps(&self) -> &[Step] {
+        match &self.answer {
+            Answer::Route { steps, .. } => steps,
+            _ => &[],
+        }
+    }
+
+    /// The line that `hallroute` prints.
+    pub fn line(&self) -> String {
+        let answer = match &self.answer {
+            Answer::Refused(number) => format!("no {number}"),
+            Answer::None => "none".to_string(),
+            Answer::Route { steps, leg, run } => {
+                let listed: Vec<String> = steps.iter().map(Step::short).collect();
+                format!("{} {leg} {run} {}", steps.len(), listed.join(" "))
+            }
+        };
+        format!("{} {} {answer}", self.source, self.goal)
+    }
+
+    /// The card in words: what it says in all, then each step.
+    pub fn words(&self) -> (String, Vec<String>) {
+        match &self.answer {
+            Answer::Refused(23) => ("the source does not lie on the floor".to_string(), vec![]),
+            Answer::Refused(24) => ("the goal does not lie on the floor".to_string(), vec![]),
+            Answer::Refused(number) => (format!("refused: {number}"), vec![]),
+            Answer::None => ("there is no route".to_string(), vec![]),
+            Answer::Route { steps, leg, run } => {
+                let plural = if steps.len() == 1 { "" } else { "s" };
+                let all = format!("{} step{plural}, leg {leg}, run {run}", steps.len());
+                (all, steps.iter().map(Step::words).collect())
+            }
+        }
+    }
+}
+
+fn step(entry: &[u8]) -> Step {
+    let window = Window::from_entry(&[entry[4], entry[5], entry[3]]);
+    Step {
+        sector: (entry[0].into(), entry[1].into()),
+        goal: usize::from(entry[2]) % CELLS,
+        window: (entry[3] != NO_WINDOW).then_some(window),
+    }
+}
+
+impl Step {
+    fn short(&self) -> String {
+        let (column, row) = self.sector;
+        let window = self.window.map_or("-".to_string(), |w| {
+            format!("{}{}-{}", LETTERS[w.side], w.first, w.last)
+        });
+        format!("{column},{row}:{}{window}", self.goal)
+    }
+
+    fn words(&self) -> String {
+        let (column, row) = self.sector;
+        let window = self.window.map_or("the goal".to_string(), |w| {
+            format!("{} window {}-{}", NAMES[w.side], w.first, w.last)
+        });
+        format!("sector {column},{row}  cell {:<2}  {window}", self.goal)
+    }
+}

@@ -1,0 +1,82 @@
+//! Hall files, and what `hallroute` reads: a hall file, then pairs.
+
+use crate::floor::{CELLS, Floor, MOST_SECTORS, UNNAMED};
+
+/// Bytes before the entries of a hall file.
+const HEAD: usize = 5;
+
+/// The hall file of a floor: columns, rows, scale, count, floor numbers, costs.
+pub fn write(floor: &Floor) -> Vec<u8> {
+    let named: Vec<(usize, u8)> = (0..)
+        .zip(floor.costs.iter().copied())
+        .filter(|(_, cost)| *cost != UNNAMED)
+        .collect();
+    let mut file = vec![floor.columns as u8, floor.rows as u8, floor.scale];
+    file.extend((named.len() as u16).to_le_bytes());
+    file.extend(
+        named
+            .iter()
+            .flat_map(|(number, _)| (*number as u16).to_le_bytes()),
+    );
+    file.extend(named.iter().map(|(_, cost)| cost));
+    file
+}
+
+/// A pair as `hallroute` reads it.
+pub fn write_pair((source, goal): (usize, usize)) -> Vec<u8> {
+    [source as u16, goal as u16].map(u16::to_le_bytes).concat()
+}
+
+/// A hall file and the pairs behind it, or the number of 01's refusal.
+pub fn read(bytes: &[u8]) -> Result<(Floor, Vec<(usize, usize)>), u8> {
+    let (file, pairs) = bytes.split_at(file_length(bytes));
+    // The proved call fills a list that fits the first two bytes, if they are a floor's.
+    let sectors = |at: usize| {
+        file.get(at)
+            .map_or(0, |n| usize::from(*n).min(MOST_SECTORS))
+    };
+    let mut costs = vec![0; sectors(0) * sectors(1) * CELLS];
+    let answer = proved::read_file(file, &mut costs);
+    if answer.number != 0 {
+        return Err(answer.number);
+    }
+    let floor = Floor {
+        columns: answer.columns.into(),
+        rows: answer.rows.into(),
+        scale: answer.scale,
+        costs,
+        legend: vec![],
+    };
+    Ok((
+        floor,
+        pairs
+            .chunks_exact(4)
+            .map(|pair| (u16_at(pair, 0), u16_at(pair, 2)))
+            .collect(),
+    ))
+}
+
+/// The first 5 + 3 × count bytes, or all if fewer.
+fn file_length(bytes: &[u8]) -> usize {
+    match bytes.len() {
+        0..HEAD => bytes.len(),
+        length => length.min(HEAD + 3 * u16_at(bytes, 3)),
+    }
+}
+
+fn u16_at(bytes: &[u8], at: usize) -> usize {
+    u16::from_le_bytes([bytes[at], bytes[at + 1]]).into()
+}
+
+/// What 01's refusals of a hall file mean.
+pub fn meaning(number: u8) -> &'static str {
+    match number {
+        10 => "it has under 5 bytes",
+        11 => "columns or rows are outside 1 to 10",
+        12 => "the scale is outside 1 to 9",
+        13 => "it counts more than 10,000 cells",
+        14 => "its length does not fit its count of cells",
+        15 => "it names a cell that the floor does not have",
+        _ => "it is refused",
+    }
+}

@@ -1,0 +1,14 @@
+//! Floors as planners draw them, hall files, and pictures of a floor with its windows and
+//! a route's card. Scaled costs, windows and the card come from the proved library.
+#![forbid(unsafe_code)]
+
+pub mod card;
+pub mod drawing;
+pub mod floor;
+pub mod hall;
+pub mod hall_file;
+pub mod problem;
+pub mod svg;
+pub mod symbols;
+pub mod terminal;
+pub mod walk;

@@ -1,0 +1,326 @@
+//! A floor as text: cells, sector borders, windows, midpoints, and the way of a card.
+
+use crate::card::Card;
+use crate::floor::{BLOCKED, LENGTH, Place, UNNAMED};
+use crate::hall::{Hall, over};
+use crate::symbols;
+use crate::walk::walk;
+
+/// Characters left of the floor, and lines above it.
+const LEFT: usize = 4;
+const TOP: usize = 2;
+/// The most columns of sectors that are drawn with two characters a cell.
+const WIDE_COLUMNS: usize = 3;
+
+const NARROW: char = '░';
+const MIDPOINT: char = '●';
+const UPRIGHT_WINDOW: char = '┊';
+const LEVEL_WINDOW: char = '┈';
+
+/// What a character shows, which decides its colour.
+#[derive(Clone, Copy, PartialEq, Eq)]
+enum Ink {
+    Plain,
+    Faint,
+    Window,
+    Way,
+    End,
+}
+
+impl Ink {
+    /// The terminal's code for it.
+    fn code(self) -> &'static str {
+        match self {
+            Ink::Plain => "0",
+            Ink::Faint => "2",
+            Ink::Window => "36",
+            Ink::Way => "31",
+            Ink::End => "1;34",
+        }
+    }
+}
+
+/// Characters by line and column.
+struct Canvas<'a> {
+    hall: &'a Hall,
+    /// Characters of a cell.
+    wide: usize,
+    lines: Vec<Vec<(char, Ink)>>,
+}
+
+/// The floor, its legend and the card as lines; with colours if the terminal shows them.
+pub fn draw(hall: &Hall, card: Option<&Card>, colours: bool) -> String {
+    let mut canvas = Canvas::empty(hall);
+    canvas.scales();
+    canvas.cells();
+    canvas.borders();
+    let way = card.map(|card| walk(hall, card)).unwrap_or_default();
+    canvas.way(&way);
+    canvas.midpoints();
+    if let Some(card) = card {
+        canvas.steps(card);
+    }
+    canvas.text(colours) + "\n" + &legend(hall) + &card.map(words).unwrap_or_default()
+}
+
+impl Canvas<'_> {
+    fn empty(hall: &Hall) -> Canvas<'_> {
+        let wide = if hall.floor.columns <= WIDE_COLUMNS {
+            2
+        } else {
+            1
+        };
+        let width = LEFT + 1 + hall.floor.columns * (LENGTH * wide + 1);
+        let height = TOP + 1 + hall.floor.rows * (LENGTH + 1);
+        Canvas {
+            hall,
+            wide,
+            lines: vec![vec![(' ', Ink::Plain); width]; height],
+        }
+    }
+
+    fn put(&mut self, line: usize, column: usize, character: char, ink: Ink) {
+        self.lines[line][column] = (character, ink);
+    }
+
+    fn put_text(&mut self, line: usize, column: usize, text: &str) {
+        for (column, character) in (column..).zip(text.chars()) {
+            self.put(line, column, character, Ink::Faint);
+        }
+    }
+
+    /// Line and column of a cell; borders stand between sectors.
+    fn spot(&self, (x, y): Place) -> (usize, usize) {
+        (
+            TOP + 1 + y + y / LENGTH,
+            LEFT + 1 + x * self.wide + x / LENGTH,
+        )
+    }
+
+    fn put_cell(&mut self, place: Place, character: char, ink: Ink) {
+        let (line, column) = self.spot(place);
+        self.put(line, column, character, ink);
+    }
+
+    /// Columns and rows of sectors, and of the cells in each.
+    fn scales(&mut self) {
+        for x in 0..self.hall.floor.width() {
+            let (_, column) = self.spot((x, 0));
+            self.put_text(1, column, &(x % LENGTH).to_string());
+            if x % LENGTH == 0 {
+                self.put_text(0, column, &(x / LENGTH).to_string());
+            }
+        }
+        for y in 0..self.hall.floor.height() {
+            let (line, _) = self.spot((0, y));
+            self.put_text(line, 3, &(y % LENGTH).to_string());
+            if y % LENGTH == 0 {
+                self.put_text(line, 1, &(y / LENGTH).to_string());
+            }
+        }
+    }
+
+    fn cells(&mut self) {
+        let table = symbols::table(&self.hall.floor);
+        for place in self.hall.floor.places() {
+            let cost = self.hall.base(place);
+            let (character, ink) = match cost {
+                BLOCKED => ('█', Ink::Plain),
+                _ if self.hall.is_narrow(place) => (NARROW, Ink::Plain),
+                UNNAMED => ('·', Ink::Faint),
+                _ => (symbols::symbol_of(&table, cost), Ink::Plain),
+            };
+            let (line, column) = self.spot(place);
+            self.put(line, column, character, ink);
+            if self.wide == 2 && "█░".contains(character) {
+                self.put(line, column + 1, character, ink);
+            }
+        }
+    }
+
+    fn borders(&mut self) {
+        let (columns, rows) = (self.hall.floor.columns, self.hall.floor.rows);
+        let upright = |column| LEFT + column * (LENGTH * self.wide + 1);
+        let level = |row| TOP + row * (LENGTH + 1);
+        let (right, bottom) = (upright(columns), level(rows));
+        let uprights: Vec<usize> = (0..=columns).map(upright).collect();
+        let levels: Vec<usize> = (0..=rows).map(level).collect();
+        for line in TOP..=bottom {
+            uprights
+                .iter()
+                .for_each(|column| self.put(line, *column, '┃', Ink::Plain));
+        }
+        for line in &levels {
+            for column in LEFT..=right {
+                let over_upright = uprights.contains(&column);
+                let joint = joint(
+                    (column == LEFT, column == right),
+                    (*line == TOP, *line == bottom),
+                );
+                self.put(
+                    *line,
+                    column,
+                    if over_upright { joint } else { '━' },
+                    Ink::Plain,
+                );
+            }
+        }
+        self.windows();
+    }
+
+    /// Open stretches of the borders. Windows face each other, so two sides of four are enough.
+    fn windows(&mut self) {
+        for (sector, window) in self.hall.all_windows() {
+            let step = if window.side % 2 == 0 { 1 } else { LENGTH };
+            for index in (window.first..=window.last).step_by(step) {
+                let (line, column) = self.spot(self.hall.place(sector, index));
+                match window.side {
+                    1 => self.put(line, column + self.wide, UPRIGHT_WINDOW, Ink::Window),
+                    2 => {
+                        for column in column..column + self.wide {
+                            self.put(line + 1, column, LEVEL_WINDOW, Ink::Window);
+                        }
+                    }
+                    _ => {}
+                }
+            }
+        }
+    }
+
+    fn midpoints(&mut self) {
+        for (sector, window) in self.hall.all_windows() {
+            let place = self.hall.place(sector, window.midpoint());
+            self.put_cell(place, MIDPOINT, Ink::Window);
+        }
+    }
+
+    /// Lines from cell to cell.
+    fn way(&mut self, way: &[Place]) {
+        let mut links = std::collections::BTreeMap::new();
+        for pair in way.windows(2) {
+            for side in (0..4).filter(|side| over(pair[0], *side) == pair[1]) {
+                *links.entry(pair[0]).or_insert(0) |= 1 << side;
+                *links.entry(pair[1]).or_insert(0) |= 1 << ((side + 2) % 4);
+            }
+        }
+        for (place, sides) in links {
+            self.put_cell(place, line_through(sides), Ink::Way);
+            let (line, column) = self.spot(place);
+            let (next_line, next_column) = self.spot((place.0 + 1, place.1 + 1));
+            if sides & 2 != 0 {
+                (column + 1..next_column).for_each(|column| self.put(line, column, '─', Ink::Way));
+            }
+            if sides & 4 != 0 {
+                (line + 1..next_line).for_each(|line| self.put(line, column, '│', Ink::Way));
+            }
+        }
+    }
+
+    /// The numbers of the steps at their cells, and source and goal.
+    fn steps(&mut self, card: &Card) {
+        for (number, step) in (1..).zip(card.steps()) {
+            let place = self.hall.place(step.sector, step.goal);
+            self.put_cell(place, circled(number), Ink::Way);
+        }
+        for (number, letter) in [(card.goal, symbols::GOAL), (card.source, symbols::SOURCE)] {
+            if number < self.hall.floor.costs.len() {
+                self.put_cell(self.hall.floor.place(number), letter, Ink::End);
+            }
+        }
+    }
+
+    fn text(&self, colours: bool) -> String {
+        let mut text = String::new();
+        for line in &self.lines {
+            let end = line
+                .iter()
+                .rposition(|(c, _)| *c != ' ')
+                .map_or(0, |last| last + 1);
+            let mut ink = Ink::Plain;
+            for (character, next) in &line[..end] {
+                if colours && *next != ink {
+                    ink = *next;
+                    text.push_str(&format!("\x1b[0;{}m", ink.code()));
+                }
+                text.push(*character);
+            }
+            if colours && ink != Ink::Plain {
+                text.push_str("\x1b[0m");
+            }
+            text.push('\n');
+        }
+        text
+    }
+}
+
+/// Where two borders meet: whether at the left, the right, the top, the bottom.
+fn joint((left, right): (bool, bool), (top, bottom): (bool, bool)) -> char {
+    match (left, right, top, bottom) {
+        (true, _, true, _) => '┏',
+        (_, true, true, _) => '┓',
+        (true, _, _, true) => '┗',
+        (_, true, _, true) => '┛',
+        (true, ..) => '┣',
+        (_, true, ..) => '┫',
+        (_, _, true, _) => '┳',
+        (_, _, _, true) => '┻',
+        _ => '╋',
+    }
+}
+
+/// The line through a cell to these sides, N 1, E 2, S 4, W 8.
+fn line_through(sides: u8) -> char {
+    [
+        '·', '│', '─', '╰', '│', '│', '╭', '├', '─', '╯', '─', '┴', '╮', '┤', '┬', '┼',
+    ][usize::from(sides)]
+}
+
+/// A number of one character, as far as there are such.
+fn circled(number: u32) -> char {
+    let code = match number {
+        1..=20 => 0x2460 + number - 1,
+        21..=35 => 0x3251 + number - 21,
+        36..=50 => 0x32b1 + number - 36,
+        _ => 0x25c9,
+    };
+    char::from_u32(code).unwrap_or('*')
+}
+
+fn legend(hall: &Hall) -> String {
+    let mut entries = vec!["█ blocked".to_string()];
+    if hall.floor.places().any(|place| hall.is_narrow(place)) {
+        entries.push(format!("{NARROW} blocked by the trolley's width"));
+    }
+    entries.push("· open at cost 1".to_string());
+    let others = symbols::table(&hall.floor).into_iter();
+    for (symbol, cost) in others.filter(|(_, cost)| ![UNNAMED, BLOCKED].contains(cost)) {
+        entries.push(format!("{symbol} open at cost {cost}"));
+    }
+    entries.push(format!("{UPRIGHT_WINDOW} window"));
+    entries.push(format!("{MIDPOINT} its midpoint"));
+    wrapped(&entries)
+}
+
+/// Entries in lines of at most 78 characters.
+fn wrapped(entries: &[String]) -> String {
+    let mut lines = vec![String::new()];
+    for entry in entries {
+        let last = lines.len() - 1;
+        if lines[last].chars().count() + entry.chars().count() > 76 {
+            lines.push(String::new());
+        }
+        let last = lines.len() - 1;
+        lines[last].push_str(&format!("  {entry}"));
+    }
+    lines.join("\n") + "\n"
+}
+
+/// The card and its steps in words.
+fn words(card: &Card) -> String {
+    let (all, steps) = card.words();
+    let mut text = format!("\n{}\n  {all}\n", card.line());
+    for (number, step) in (1..).zip(steps) {
+        text.push_str(&format!("  {} {step}\n", circled(number)));
+    }
+    text
+}

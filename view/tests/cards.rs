@@ -1,0 +1,109 @@
+//! Hall files, cards and the ways drawn for them, on the samples and on drawn floors.
+
+use std::fs;
+
+use hallview::card::{Answer, Card};
+use hallview::floor::{Floor, Place};
+use hallview::hall::Hall;
+use hallview::hall_file;
+use hallview::walk::walk;
+
+const SAMPLES: [&str; 3] = ["chutes", "corner_gate", "two_sectors"];
+
+fn sample(name: &str) -> Vec<u8> {
+    fs::read(format!(
+        "{}/../sample/{name}.hall",
+        env!("CARGO_MANIFEST_DIR")
+    ))
+    .unwrap()
+}
+
+#[test]
+fn cards_are_the_lines_of_hallroute() {
+    for name in SAMPLES {
+        let input = sample(name);
+        let (floor, pairs) = hall_file::read(&input).unwrap();
+        let hall = Hall::build(floor);
+        let card = |pair: &(usize, usize)| Card::of(&hall, pair.0, pair.1).line() + "\n";
+        let lines: String = pairs.iter().map(card).collect();
+        assert_eq!(lines.into_bytes(), second::hallroute(&input), "{name}");
+    }
+}
+
+#[test]
+fn a_hall_file_that_is_written_reads_as_the_same_hall() {
+    for name in SAMPLES {
+        let (floor, pairs) = hall_file::read(&sample(name)).unwrap();
+        let mut written = hall_file::write(&floor);
+        written.extend(pairs.iter().copied().flat_map(hall_file::write_pair));
+        assert_eq!(hall_file::read(&written), Ok((floor, pairs)), "{name}");
+    }
+}
+
+#[test]
+fn refused_hall_files() {
+    let refused = |bytes: &[u8]| hall_file::read(bytes).unwrap_err();
+    assert_eq!(refused(&[]), 10);
+    assert_eq!(refused(&[11, 1, 1, 0, 0]), 11);
+    assert_eq!(refused(&[1, 1, 0, 0, 0]), 12);
+    assert_eq!(refused(&[1, 1, 1, 255, 255]), 13);
+    assert_eq!(refused(&[1, 1, 1, 1, 0]), 14);
+    assert_eq!(refused(&[1, 1, 1, 1, 0, 100, 0, 255]), 15);
+}
+
+/// Numbers from a seed.
+struct Draw(u64);
+
+impl Draw {
+    fn below(&mut self, count: usize) -> usize {
+        self.0 = self
+            .0
+            .wrapping_mul(6_364_136_223_846_793_005)
+            .wrapping_add(1_442_695_040_888_963_407);
+        (self.0 >> 33) as usize % count
+    }
+}
+
+fn drawn_hall(draw: &mut Draw) -> Hall {
+    let (columns, rows) = (1 + draw.below(4), 1 + draw.below(4));
+    let (scale, per_cent) = ([1, 1, 2, 3][draw.below(4)], draw.below(35));
+    let mut cost = |_| if draw.below(100) < per_cent { 255 } else { 1 };
+    Hall::build(Floor {
+        columns,
+        rows,
+        scale,
+        costs: (0..100 * columns * rows).map(&mut cost).collect(),
+        legend: vec![],
+    })
+}
+
+fn are_beside(a: Place, b: Place) -> bool {
+    a.0.abs_diff(b.0) + a.1.abs_diff(b.1) == 1
+}
+
+#[test]
+fn a_way_has_as_many_moves_as_leg_and_run() {
+    let mut draw = Draw(5);
+    let mut longest = 0;
+    for _ in 0..60 {
+        let hall = drawn_hall(&mut draw);
+        let cells = hall.floor.costs.len();
+        for _ in 0..20 {
+            let card = Card::of(&hall, draw.below(cells), draw.below(cells));
+            let Answer::Route { steps, leg, run } = &card.answer else {
+                assert!(walk(&hall, &card).is_empty());
+                continue;
+            };
+            let way = walk(&hall, &card);
+            assert_eq!(way.len() as u32, leg + run + 1, "{}", card.line());
+            assert!(
+                way.windows(2).all(|pair| are_beside(pair[0], pair[1])),
+                "{}",
+                card.line()
+            );
+            assert!(way.len() == 1 || way.iter().all(|place| hall.is_open(*place)));
+            longest = longest.max(steps.len());
+        }
+    }
+    assert!(longest > 5);
+}

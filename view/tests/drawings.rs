@@ -1,0 +1,272 @@
+//! Drawings: what is read, and each way in which one can be wrong.
+
+use hallview::drawing::{read, write};
+use hallview::floor::Floor;
+
+/// Settings, then a floor of one sector that is open.
+fn with_settings(settings: &str) -> String {
+    format!("{settings}{}", "..........\n".repeat(10))
+}
+
+/// An open floor of one sector with one row in place of its n-th, counted from 1.
+fn with_row(n: usize, row: &str) -> String {
+    let mut rows = [".........."; 10];
+    rows[n - 1] = row;
+    rows.join("\n")
+}
+
+fn problem(text: &str) -> String {
+    read(text.as_bytes()).unwrap_err().to_string()
+}
+
+/// Each of these settings above a floor gives its problem.
+fn assert_settings(cases: &[(&str, &str)]) {
+    for (settings, expected) in cases {
+        assert_eq!(problem(&with_settings(settings)), *expected);
+    }
+}
+
+/// Each of these rows in place of the n-th gives its problem.
+fn assert_rows<T: AsRef<str>>(cases: &[(usize, &str, T)]) {
+    for (n, row, expected) in cases {
+        assert_eq!(problem(&with_row(*n, row)), expected.as_ref());
+    }
+}
+
+fn floor(text: &str) -> Floor {
+    read(text.as_bytes()).unwrap().floor
+}
+
+#[test]
+fn a_floor_with_settings_and_marks() {
+    let text = "// a hall\nscale 2\n~ = 40\n\nS.#~5.....\n".to_string()
+        + &"..........\n".repeat(8)
+        + ".........G\n";
+    let drawn = read(text.as_bytes()).unwrap();
+    assert_eq!(
+        (drawn.floor.columns, drawn.floor.rows, drawn.floor.scale),
+        (1, 1, 2)
+    );
+    assert_eq!(drawn.floor.costs[..6], [1, 1, 255, 40, 5, 1]);
+    assert_eq!(drawn.ends, Some(((0, 0), (9, 9))));
+}
+
+#[test]
+fn floor_numbers_go_by_sector() {
+    let west = "#.........";
+    let rows = [format!("..........{west}\n"), "..........".repeat(2) + "\n"];
+    let text = rows[1].repeat(10) + &rows[0] + &rows[1].repeat(9);
+    let floor = floor(&text);
+    assert_eq!((floor.columns, floor.rows), (2, 2));
+    assert_eq!(floor.costs.iter().position(|cost| *cost == 255), Some(300));
+}
+
+#[test]
+fn rulings_spaces_and_line_ends_change_nothing() {
+    let plain = "#........./........#./".replace('/', "\r\n") + &"..........\r\n".repeat(18);
+    let mut ruled = String::from("\u{feff}// ruled\n\n+----------+\n");
+    for row in plain.lines().take(10) {
+        ruled += &format!("  | {row} |  \n");
+    }
+    ruled += "\n|----------|\n\n";
+    for row in plain.lines().skip(10) {
+        ruled += &format!("{row}\n");
+    }
+    assert_eq!(floor(&plain), floor(&ruled));
+}
+
+#[test]
+fn the_scale_is_1_unless_told() {
+    assert_eq!(floor(&with_settings("")).scale, 1);
+    assert_eq!(floor(&with_settings("scale 9\n")).scale, 9);
+}
+
+#[test]
+fn wrong_settings() {
+    assert_settings(&[
+        (
+            "scale 0\n",
+            "line 1, column 7: scale `0` is not a whole number from 1 to 9",
+        ),
+        (
+            "\nscale  10\n",
+            "line 2, column 8: scale `10` is not a whole number from 1 to 9",
+        ),
+        (
+            "scale two\n",
+            "line 1, column 7: scale `two` is not a whole number from 1 to 9",
+        ),
+        (
+            "scale\n",
+            "line 1, column 6: after `scale` stands one number, 1 to 9",
+        ),
+        (
+            "scale 2 3\n",
+            "line 1, column 9: after `scale` stands one number, 1 to 9",
+        ),
+        (
+            "scale 2\nscale 2\n",
+            "line 2, column 1: a second scale: line 1 has one",
+        ),
+        (
+            " width 2\n",
+            "line 1, column 2: no setting is called `width`: there are `scale 2` and legends such as `~ = 40`",
+        ),
+    ]);
+}
+
+#[test]
+fn wrong_legends() {
+    assert_settings(&[
+        (
+            " = 4\n",
+            "line 1, column 1: left of `=` stands one character, not ``",
+        ),
+        (
+            "ab = 4\n",
+            "line 1, column 1: left of `=` stands one character, not `ab`",
+        ),
+        ("  # = 4\n", "line 1, column 3: `#` has a meaning already"),
+        ("S = 4\n", "line 1, column 1: `S` has a meaning already"),
+        ("7 = 4\n", "line 1, column 1: `7` has a meaning already"),
+        (
+            "a = 4\na = 5\n",
+            "line 2, column 1: `a` has a cost already, in line 1",
+        ),
+        (
+            "a =\n",
+            "line 1, column 4: right of `=` stands a cost, 0 to 254",
+        ),
+        (
+            "a = 255\n",
+            "line 1, column 5: 255 is blocked: draw it as `#`",
+        ),
+        (
+            "a = 256\n",
+            "line 1, column 5: cost `256` is not a whole number from 0 to 254",
+        ),
+        (
+            "a = -1\n",
+            "line 1, column 5: cost `-1` is not a whole number from 0 to 254",
+        ),
+        (
+            "a = 4 ramp\n",
+            "line 1, column 5: cost `4 ramp` is not a whole number from 0 to 254",
+        ),
+    ]);
+}
+
+#[test]
+fn settings_below_the_floor() {
+    let floor = with_settings("");
+    let stands = "stands above the floor, which began in line 1";
+    assert_eq!(
+        problem(&(floor.clone() + "scale 2\n")),
+        format!("line 11, column 1: the scale {stands}")
+    );
+    assert_eq!(
+        problem(&(floor + "a = 2\n")),
+        format!("line 11, column 1: a legend {stands}")
+    );
+}
+
+#[test]
+fn wrong_rows() {
+    let cells = "cells are # . 0 to 9 S G, and what a legend above the floor names";
+    let unknown = |symbol| format!("no cell is drawn as `{symbol}`: {cells}");
+    let cases = [
+        (1, "........", "line 1, column 9: the row ends after 8 cells: a row is whole sectors of 10, so 10".to_string()),
+        (1, "..............", "line 1, column 15: the row ends after 14 cells: a row is whole sectors of 10, so 10 or 20".to_string()),
+        (3, ".........", "line 3, column 10: the row ends after 9 cells, the first row (line 1) has 10".to_string()),
+        (3, "...........", "line 3, column 11: the row goes on after 10 cells, which the first row has (line 1)".to_string()),
+        (3, "....x.....", format!("line 3, column 5: {}", unknown('x'))),
+        (3, "....,.....", format!("line 3, column 5: {}", unknown(','))),
+        (3, ".\t........", "line 3, column 2: no cell is drawn as `\\t` (the name of a hall file ends in .hall)".to_string()),
+        (3, "....|......", "line 3, column 5: a `|` inside a sector, after 4 of its 10 cells".to_string()),
+        (3, ". .........", "line 3, column 2: a space inside a sector, after 1 of its 10 cells".to_string()),
+        (3, "", "line 3, column 1: an empty line inside a sector, after 2 of its 10 rows".to_string()),
+        (3, "----------", "line 3, column 1: a ruling inside a sector, after 2 of its 10 rows".to_string()),
+    ];
+    assert_rows(&cases);
+}
+
+#[test]
+fn floors_too_large() {
+    let wide = ".".repeat(101) + "\n";
+    assert_eq!(
+        problem(&wide),
+        "line 1, column 101: cell 101: a floor has at most 10 sectors across, 100 cells"
+    );
+    let tall = "..........\n".repeat(101);
+    assert_eq!(
+        problem(&tall),
+        "line 101, column 1: row 101: a floor has at most 10 sectors down, 100 rows"
+    );
+    let largest = (".".repeat(100) + "\n").repeat(100);
+    assert_eq!(floor(&largest).costs.len(), 10_000);
+}
+
+#[test]
+fn floors_cut_short() {
+    assert_eq!(problem(""), "line 1, column 1: no row of a floor is drawn");
+    assert_eq!(
+        problem("scale 3\n// nothing\n"),
+        "line 1, column 1: no row of a floor is drawn"
+    );
+    let rows = "..........\n".repeat(14);
+    assert_eq!(
+        problem(&rows),
+        "line 14, column 1: the floor ends after 14 rows: it is whole sectors of 10, so 10 or 20"
+    );
+}
+
+#[test]
+fn wrong_marks() {
+    let cases = [
+        (
+            4,
+            "..S...S...",
+            "line 4, column 7: a second S: the first stands in line 4, column 3",
+        ),
+        (
+            2,
+            "|G........G|",
+            "line 2, column 11: a second G: the first stands in line 2, column 2",
+        ),
+        (2, "..S.......", "line 2, column 3: an S without a G"),
+        (2, "..G.......", "line 2, column 3: a G without an S"),
+    ];
+    assert_rows(&cases);
+}
+
+#[test]
+fn no_text() {
+    let text = read(b"scale 2\n..\xff......").unwrap_err().to_string();
+    assert_eq!(
+        text,
+        "line 2, column 3: this is no text: a drawing is UTF-8"
+    );
+}
+
+#[test]
+fn a_drawing_that_is_written_reads_as_the_same_floor() {
+    let mut costs: Vec<u8> = (0..600).map(|cell| (cell * 7 % 256) as u8).collect();
+    (costs[0], costs[599]) = (1, 1);
+    let floor = Floor {
+        columns: 3,
+        rows: 2,
+        scale: 4,
+        costs,
+        legend: vec![],
+    };
+    let ends = Some((floor.place(0), floor.place(599)));
+    let drawn = read(write(&floor, ends).as_bytes()).unwrap();
+    assert_eq!(drawn.floor.costs, floor.costs);
+    assert_eq!((drawn.floor.scale, drawn.ends), (4, ends));
+}
+
+#[test]
+fn a_drawing_keeps_its_own_characters() {
+    let text = with_settings("~ = 40\n").replacen('.', "~", 1);
+    assert!(write(&floor(&text), None).contains("|~.........|"));
+}
