@@ -1,8 +1,8 @@
 -- A route of a store that passes the check has at most 1,001 steps: a least path passes each of at most 2,000 portals once.
-use Prim.Native.Nat.{ℕ, _+_, _*_, _/_, _≤_, _<_}
+use Prim.Native.Nat.{ℕ, _*_, _≤_, _<_}
 use native.Mathlib.Omega.{arith}
-use mathlib.Core.Path.{_≡_, refl, ap, _∙_}
-use mathlib.Core.Logic.{_⊎_, inl, inr}
+use mathlib.Core.Path.{_≡_, refl}
+use mathlib.Core.Logic.{_⊎_, inl}
 use mathlib.Core.Bool.{Bool, true, false, _&&_}
 use mathlib.Core.List.{List, [], _∷_, map}
 use lib.Dec.{ltb}
@@ -20,7 +20,7 @@ use Rattle.model.specs.Halls.{Hall}
 use Rattle.model.specs.Portals.{portalSector, portalWindow, portalMark, isPortal, midCell, portalGraph}
 use Rattle.model.specs.LeastPath.{nodeRank, unlinked, keysTo, leastPath}
 use Rattle.model.specs.LeastPathFirst.{Fits, portal-keyed, keys-settled}
-use Rattle.model.specs.Route.{Found, Pair, End, starts, ends, endOf, linkedPair, runOf, routePairs, chosenPair, stepsOf, throughPair, throughPortals, oneStep, routeOf}
+use Rattle.model.specs.Route.{Pair, End, starts, ends, endOf, linkedPair, runOf, routePairs, chosenPair, stepsOf, throughPair, throughPortals, oneStep, routeOf}
 use Rattle.model.specs.Store.{decode}
 use Rattle.model.specs.Calls.{stepList}
 use Rattle.store.specs.Checks.{Checked}

@@ -68,7 +68,8 @@ fn flat_route(st: &[u8], source: usize, goal: usize, records: usize, flat: &mut 
 
 // Finds the route from one cell to another and writes its steps to the first records of a list. A refusal and "none" leave the list as it was.
 pub fn route_records(st: &[u8], source: usize, goal: usize, list: &mut [RouteStep]) -> Routed
-    ensures { λ r. ⌜ (r ≡ routeAnswer (now (st .entry)) source goal (length (now (list .entry)))) × (now (list .exit) ≡ routeSteps (now (st .entry)) source goal (now (list .entry))) ⌝ }
+    ensures answer { λ r. ⌜ r ≡ routeAnswer (now (st .entry)) source goal (length (now (list .entry))) ⌝ }
+    ensures steps { λ _. ⌜ now (list .exit) ≡ routeSteps (now (st .entry)) source goal (now (list .entry)) ⌝ }
 {
     let mut flat = [0; 6006];
     let answer = flat_route(st, source, goal, list.len(), &mut flat);
