@@ -2,3 +2,4 @@ pub mod Choosing
 pub mod PortalPaths
 pub mod Stepping
 pub mod Finding
+pub mod Flat

@@ -1,0 +1,3 @@
+pub mod Filling
+pub mod FewSteps
+pub mod Routing

@@ -1,0 +1,78 @@
+// The route call with a lent list of step records: document 01, "Steps go to a lent list of step records".
+ghost use mathlib.Core.Path.{_≡_};
+ghost use mathlib.Core.List.{_++_};
+ghost use Prim.Native.Nat.{_+_, _*_, _≤_, _<_, min};
+ghost use lib.ListN.{length, drop};
+ghost use Rattle.model.specs.Calls.{routedSteps, routeAnswer, routeSteps};
+ghost use Rattle.route.specs.Flat.{stepIn, stepsIn};
+ghost use Rattle.records.specs.Routing.{Flatly};
+use hall::routing::route;
+use model::RouteStep;
+use model::Routed;
+
+// Step i of a flat list, six bytes each.
+fn step_at(flat: &[u8], i: usize) -> RouteStep
+    requires { ⌜ 6 * i + 5 < length (now flat) ⌝ }
+    ensures { λ r. ⌜ r ≡ stepIn (now (flat .entry)) i ⌝ }
+{
+    let at = 6 * i;
+    RouteStep {
+        column: flat[at],
+        row: flat[at + 1],
+        goal: flat[at + 2],
+        side: flat[at + 3],
+        first: flat[at + 4],
+        last: flat[at + 5],
+    }
+}
+
+// The first n steps of a flat list go to the first n records; the others stay.
+pub fn write_records(flat: &[u8], n: usize, list: &mut [RouteStep])
+    requires { ⌜ (n ≤ length (now list)) × (6 * n ≤ length (now flat)) ⌝ }
+    ensures { λ _. ⌜ now (list .exit) ≡ stepsIn n (now (flat .entry)) ++ drop n (now (list .entry)) ⌝ }
+{
+    let mut i = 0;
+    while i < n {
+        list[i] = step_at(flat, i);
+        i += 1;
+    }
+}
+
+// How many steps a flat list has to hold for so many records: a route has at most 1,001.
+fn steps_room(records: usize) -> usize
+    ensures { λ r. ⌜ r ≡ min records 1001 ⌝ }
+{
+    if records < 1001 { records } else { 1001 }
+}
+
+// How many steps an answer has.
+fn steps_of(answer: Routed) -> usize
+    ensures { λ r. ⌜ r ≡ routedSteps answer ⌝ }
+{
+    match answer {
+        Routed::Route { steps, leg, run } => steps as usize,
+        Routed::NoRoute => 0,
+        Routed::Refused(n) => 0,
+    }
+}
+
+// The route call for so many records, its steps in front of a flat list.
+fn flat_route(st: &[u8], source: usize, goal: usize, records: usize, flat: &mut [u8]) -> Routed
+    requires { ⌜ length (now flat) ≡ 6006 ⌝ }
+    ensures answer { λ r. ⌜ r ≡ routeAnswer (now (st .entry)) source goal records ⌝ }
+    ensures steps { λ r. ⌜ Flatly (now (st .entry)) source goal records r (now (flat .exit)) ⌝ }
+{
+    let bytes = 6 * steps_room(records);
+    route(st, source, goal, &mut flat[..bytes])
+}
+
+// Finds the route from one cell to another and writes its steps to the first records of a list. A refusal and "none" leave the list as it was.
+pub fn route_records(st: &[u8], source: usize, goal: usize, list: &mut [RouteStep]) -> Routed
+    ensures answer { λ r. ⌜ r ≡ routeAnswer (now (st .entry)) source goal (length (now (list .entry))) ⌝ }
+    ensures steps { λ _. ⌜ now (list .exit) ≡ routeSteps (now (st .entry)) source goal (now (list .entry)) ⌝ }
+{
+    let mut flat = [0; 6006];
+    let answer = flat_route(st, source, goal, list.len(), &mut flat);
+    write_records(&flat, steps_of(answer), list);
+    answer
+}
