@@ -27,7 +27,7 @@ fn step_at(flat: &[u8], i: usize) -> RouteStep
 }
 
 // The first n steps of a flat list go to the first n records; the others stay.
-pub fn write_records(flat: &[u8], n: usize, list: &mut [RouteStep])
+fn write_records(flat: &[u8], n: usize, list: &mut [RouteStep])
     requires { ⌜ (n ≤ length (now list)) × (6 * n ≤ length (now flat)) ⌝ }
     ensures { λ _. ⌜ now (list .exit) ≡ stepsIn n (now (flat .entry)) ++ drop n (now (list .entry)) ⌝ }
 {
