@@ -1,7 +1,8 @@
 // The least keys of paths to one portal: a search that serves waiting portals in the order in which they came to wait.
 // The order bears on its speed alone, so the queue may lose a number: one that waits is found again.
 ghost use mathlib.Core.Path.{_≡_};
-ghost use Prim.Native.Nat.{ℕ, _*_, _/_, _≤_, _<_};
+ghost use mathlib.Core.Bool.{false};
+ghost use Prim.Native.Nat.{ℕ, _+_, _*_, _/_, _≤_, _<_};
 ghost use lib.ListN.{length, set, replicate};
 ghost use Rattle.laws.specs.Graph.{BothWays};
 ghost use Rattle.laws.specs.LeastCosts.{relaxed};
@@ -10,6 +11,7 @@ ghost use Rattle.model.specs.Sectors.{sectors};
 ghost use Rattle.model.specs.LeastPath.{keysTo};
 ghost use Rattle.graph.specs.EdgeTable.{tableGraph};
 ghost use Rattle.graph.specs.Searching.{Searched, Lined, Turned};
+ghost use Rattle.graph.specs.Turns.{Offerless, Served};
 use crate::portals::head_of;
 use model::Measures;
 
@@ -62,7 +64,80 @@ fn offer(
     push(queue, end, v)
 }
 
-// The turn of number u, if it waits: its 20 arcs. Says where the queue then ends.
+// 1 where an edge of weight w from a portal of this key offers less than the old key, else 0.
+fn gain(key: u32, w: u32, old: u32) -> u32
+    ensures { λ r. ⌜ (r ≤ 1) × (r ≡ 0 → 0 < w → old ≤ key + w) ⌝ }
+{
+    if w == 0 {
+        return 0;
+    }
+    if (key as u64) + (w as u64) < (old as u64) {
+        return 1;
+    }
+    0
+}
+
+// Whether an edge of portal u within its sector offers less than the portal there has. All twenty places are looked at: to stop at the first is slower.
+fn offers_inside(table: &[u32], u: usize, keys: &[u32]) -> bool
+    requires { ⌜ (u < 2000) × (u / 20 * 20 + 20 ≤ length (now keys)) × (u * 20 + 20 ≤ length (now table)) ⌝ }
+    ensures { λ r. ⌜ (r ≡ false → Offerless (now (table .entry)) (now (keys .entry)) u 20) ⌝ }
+{
+    let key = keys[u];
+    let first = u / 20 * 20;
+    let mut n = 0u32;
+    let mut c = 0;
+    while c < 20 {
+        n += gain(key, table[u * 20 + c], keys[first + c]);
+        c += 1;
+    }
+    0 < n
+}
+
+// The arcs of number u in turn. Says where the queue then ends.
+fn take_arcs(
+    m: Measures,
+    table: &[u32],
+    u: usize,
+    keys: &mut [u32],
+    wait: &mut [u8],
+    queue: &mut [u16],
+    end: usize,
+) -> usize
+    requires { ⌜ Searched m (now table) (length (now keys)) (length (now wait)) × (end ≤ length (now queue)) × (u < sectors m * 20) ⌝ }
+    ensures room { λ r. ⌜ r ≤ length (now (queue .entry)) ⌝ }
+    ensures taken { λ _. ⌜ Served m (now (table .entry)) u (now (keys .entry)) (now (wait .entry)) (now (keys .exit)) (now (wait .exit)) ⌝ }
+{
+    let mut t = end;
+    let mut a = u * 20;
+    let last = a + 20;
+    while a < last {
+        t = offer(m, table, u, a, keys, wait, queue, t);
+        a += 1;
+    }
+    t
+}
+
+// All arcs of number u that offer something: those of its 20, or only the one to the facing portal where no other offers anything.
+fn take_turn(
+    m: Measures,
+    table: &[u32],
+    u: usize,
+    keys: &mut [u32],
+    wait: &mut [u8],
+    queue: &mut [u16],
+    end: usize,
+) -> usize
+    requires { ⌜ Searched m (now table) (length (now keys)) (length (now wait)) × (end ≤ length (now queue)) × (u < sectors m * 20) ⌝ }
+    ensures room { λ r. ⌜ r ≤ length (now (queue .entry)) ⌝ }
+    ensures taken { λ _. ⌜ Served m (now (table .entry)) u (now (keys .entry)) (now (wait .entry)) (now (keys .exit)) (now (wait .exit)) ⌝ }
+{
+    if offers_inside(table, u, keys) {
+        return take_arcs(m, table, u, keys, wait, queue, end);
+    }
+    offer(m, table, u, u * 20 + u % 20, keys, wait, queue, end)
+}
+
+// The turn of number u, if it waits. Says where the queue then ends.
 fn serve(
     m: Measures,
     table: &[u32],
@@ -84,14 +159,7 @@ fn serve(
         return end;
     }
     wait[u] = 0;
-    let mut t = end;
-    let mut a = u * 20;
-    let last = a + 20;
-    while a < last {
-        t = offer(m, table, u, a, keys, wait, queue, t);
-        a += 1;
-    }
-    t
+    take_turn(m, table, u, keys, wait, queue, end)
 }
 
 // The numbers of the queue have their turns in its order, and so have those that come to it meanwhile.

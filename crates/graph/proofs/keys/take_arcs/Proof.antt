@@ -1,0 +1,105 @@
+-- `take_arcs` takes the arcs of one number. The loop's invariant: those before a are taken, and the work has not risen.
+use native.Mathlib.Omega.{arith}
+use mathlib.Core.Path.{_≡_, refl, _∙_}
+use native.Mathlib.Nat.{le-trans}
+use Prim.Native.Nat.{ℕ, _+_, _-_, _*_, _≤_, _<_}
+use lib.ListN.{length}
+use Rattle.laws.specs.Waiting.{Serving, serving-arc, serving-all, work, work-arc}
+use Rattle.model.specs.Sectors.{sectors}
+use Rattle.graph.specs.EdgeTable.{tableGraph}
+use Rattle.graph.proofs.keys.take_arcs.Statement.{statement}
+use Rattle.graph.proofs.keys.take_arcs.Tie as tie
+
+abbrev Inv-loop : tie.InvT-loop
+Inv-loop m table u keys₀ wait₀ queue₀ end t₀ a₀ last keys wait queue t a =
+    (u * 20 ≤ a) × (a ≤ u * 20 + 20) × (length keys ≡ length keys₀) × (length wait ≡ length wait₀) × (length queue ≡ length queue₀) × (t ≤ length queue₀)
+    × ((s top : ℕ) → Serving (tableGraph m table) s top keys₀ wait₀ u (u * 20) → Serving (tableGraph m table) s top keys wait u a)
+    × (work keys wait ≤ work keys₀ wait₀)
+
+abbrev μ-loop : tie.MeasureT-loop
+μ-loop m table u keys₀ wait₀ queue₀ end t₀ a₀ last keys wait queue t a = u * 20 + 20 - a
+
+abbrev S : tie.After-slice-known3 Inv-loop μ-loop → tie.Start Inv-loop μ-loop
+S c = c .before .before .before .before
+
+-- the loop, seen from its end
+abbrev In : tie.After-slice-known6 Inv-loop μ-loop → tie.In-loop Inv-loop μ-loop
+In c = c .before .before .before .before .before .before .before .before .before .before
+
+mul-a : tie.Need-mul-a Inv-loop μ-loop
+mul-a c = omega (arith, S c .pre .0 .few, S c .pre .2)
+
+add-last : tie.Need-add-last Inv-loop μ-loop
+add-last c = omega (arith, S c .pre .0 .few, S c .pre .2)
+
+loop-holds : tie.Need-loop-holds Inv-loop μ-loop
+loop-holds c = (omega arith, omega arith, refl, refl, refl, S c .pre .1, λ s top w. w, omega arith)
+
+offer-requires : tie.Need-offer-requires Inv-loop μ-loop
+offer-requires c κs =
+    let at = c .before .before .before .before in
+    let start = S (at .before) in
+    (rw (at .loop .inv .2, at .loop .inv .3) (start .pre .0), omega (arith, start .pre .2), omega arith, omega (arith, at .loop .inv))
+
+add-a : tie.Need-add-a Inv-loop μ-loop
+add-a c = let start = S (In c .before .before) in omega (arith, start .pre .0 .few, start .pre .2)
+
+loop-less : tie.Need-loop-less Inv-loop μ-loop
+loop-less c = omega arith
+
+loop-again : tie.Need-loop-again Inv-loop μ-loop
+loop-again c =
+    let call = c .before .before .before .before .before .before .offer in
+    let at = In c .before in
+    let start = S (at .before) in
+    let inside : at .loop .a < start .args .u * 20 + 20 = omega (arith, In c .loop-test .taken) in
+    let in-arcs : at .loop .a < sectors (start .args .m) * 400 = omega (arith, start .pre .2) in
+    let sound = start .pre .0 .sound in
+    let took = call .ensures .1 in (
+      omega (arith, at .loop .inv .0),
+      omega arith,
+      call .kept .1 .1 .1 .1 .0 ∙ at .loop .inv .2,
+      call .kept .1 .1 .1 .1 .1 .0 ∙ at .loop .inv .3,
+      call .kept .1 .1 .1 .1 .1 .1 .0 ∙ at .loop .inv .4,
+      omega (arith, call .ensures .0, at .loop .inv .4),
+      λ s top w. rw (took .0, took .1) (serving-arc sound (at .loop .inv .6 s top w) in-arcs (omega (arith, at .loop .inv .0))),
+      rw (took .0, took .1) (le-trans (work-arc sound (at .loop .keys) (at .loop .wait) (at .loop .a) (at .loop .inv .2 ∙ start .pre .0 .numbers) (omega (arith, at .loop .inv .3, start .pre .0 .room)) in-arcs) (at .loop .inv .7)),
+    )
+
+same-length : tie.Need-same-length Inv-loop μ-loop
+same-length c = c .before .loop .inv .2
+
+same-length-2 : tie.Need-same-length-2 Inv-loop μ-loop
+same-length-2 c = c .before .loop .inv .3
+
+same-length-3 : tie.Need-same-length-3 Inv-loop μ-loop
+same-length-3 c = c .before .loop .inv .4
+
+returns : tie.Need-returns Inv-loop μ-loop
+returns c =
+    let at = c .before in
+    let start = S (at .before) in (
+      at .loop .inv .5,
+      record {
+        done = λ s top w. serving-all (start .pre .0 .sound) (at .loop .inv .6 s top w) (λ e l q. omega arith);
+        light = at .loop .inv .7;
+      },
+    )
+
+pub take-arcs-spec : {M : Type 1} → statement M
+take-arcs-spec =
+    tie.close
+    (tie.spec
+    Inv-loop
+    μ-loop
+    mul-a
+    add-last
+    loop-holds
+    offer-requires
+    add-a
+    loop-less
+    loop-again
+    same-length
+    same-length-2
+    same-length-3
+    returns)
