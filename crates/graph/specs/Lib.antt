@@ -2,6 +2,8 @@ pub mod Across
 pub mod EdgeTable
 pub mod Reading
 pub mod Weights
+pub mod Extending
 pub mod Searching
+pub mod Ends
 pub mod Following
 pub mod Near

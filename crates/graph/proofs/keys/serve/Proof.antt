@@ -5,9 +5,10 @@ use native.Mathlib.Nat.{le-trans, lt-of-le-of-lt}
 use Prim.Native.Nat.{ℕ, _+_, _-_, _*_, _≤_, _<_}
 use lib.ListN.{length, length-set}
 use denote.Ref.{now}
-use Rattle.laws.specs.Waiting.{Serving, serving-none, serving-arc, serving-all, work, work-served, work-arc}
+use Rattle.laws.specs.Waiting.{work, work-served, work-arc}
 use Rattle.model.specs.Sectors.{sectors}
 use Rattle.graph.specs.EdgeTable.{tableGraph}
+use Rattle.graph.specs.Extending.{Serves, turn-begins, turn-arc, turn-ends}
 use Rattle.graph.specs.Searching.{turned-none, turned-less}
 use Rattle.graph.proofs.keys.serve.Statement.{statement}
 use Rattle.graph.proofs.keys.serve.Tie as tie
@@ -15,7 +16,7 @@ use Rattle.graph.proofs.keys.serve.Tie as tie
 abbrev Inv-loop : tie.InvT-loop
 Inv-loop m table u keys₀ wait₀ queue₀ end t₀ a₀ last keys wait queue t a =
     (u * 20 ≤ a) × (a ≤ u * 20 + 20) × (length keys ≡ length keys₀) × (length wait ≡ length wait₀) × (length queue ≡ length queue₀) × (t ≤ length queue₀)
-    × ((s top : ℕ) → Serving (tableGraph m table) s top keys₀ wait₀ u (u * 20) → Serving (tableGraph m table) s top keys wait u a)
+    × Serves (tableGraph m table) u keys₀ wait₀ a keys wait
     × (work keys wait ≤ work keys₀ wait₀)
 
 abbrev μ-loop : tie.MeasureT-loop
@@ -36,13 +37,13 @@ abbrev In : tie.After-slice-known7 Inv-loop μ-loop → tie.In-loop Inv-loop μ-
 In c = c .before .before .before .before .before .before .before .before .before .before
 
 returns : tie.Need-returns Inv-loop μ-loop
-returns c = (c .before .before .before .before .before .pre .1, (λ s top w. w, turned-none (λ l _. omega (arith, c .if1 .taken))))
+returns c = (c .before .before .before .before .before .pre .1, (λ g o ext s top w. w, turned-none (λ l _. omega (arith, c .if1 .taken))))
 
 slice-read-if2 : tie.Need-slice-read-if2 Inv-loop μ-loop
 slice-read-if2 c = let start = c .before .before .before .before .before .before in omega (arith, c .before .if1 .left, start .pre .0 .numbers, start .pre .0 .room)
 
 returns-2 : tie.Need-returns-2 Inv-loop μ-loop
-returns-2 c = (c .before .before .before .before .before .before .before .pre .1, (λ s top w. w, turned-none (λ _ l. omega (arith, c .if2 .taken))))
+returns-2 c = (c .before .before .before .before .before .before .before .pre .1, (λ g o ext s top w. w, turned-none (λ _ l. omega (arith, c .if2 .taken))))
 
 slice-write-wait : tie.Need-slice-write-wait Inv-loop μ-loop
 slice-write-wait c = omega (arith, S c .pre .0 .room, low c)
@@ -54,7 +55,7 @@ add-last : tie.Need-add-last Inv-loop μ-loop
 add-last c = omega (arith, S c .pre .0 .few, low c)
 
 loop-holds : tie.Need-loop-holds Inv-loop μ-loop
-loop-holds c = (omega arith, omega arith, refl, refl, refl, S c .pre .1, λ s top w. w, omega arith)
+loop-holds c = (omega arith, omega arith, refl, refl, refl, S c .pre .1, λ g o ext s top w. w, omega arith)
 
 offer-requires : tie.Need-offer-requires Inv-loop μ-loop
 offer-requires c κs =
@@ -75,6 +76,8 @@ loop-again c =
     let in-arcs : at .loop .a < sectors (S (at .before) .args .m) * 400 = omega (arith, low (at .before)) in
     let start = S (at .before) in
     let sound = start .pre .0 .sound in
+    let numbers : length (at .loop .keys) ≡ sectors (start .args .m) * 20 = at .loop .inv .2 ∙ start .pre .0 .numbers in
+    let room : sectors (start .args .m) * 20 ≤ length (at .loop .wait) = omega (arith, long at, start .pre .0 .room) in
     let took = call .ensures .1 in (
       omega (arith, at .loop .inv .0),
       omega arith,
@@ -82,8 +85,8 @@ loop-again c =
       call .kept .1 .1 .1 .1 .1 .0 ∙ at .loop .inv .3,
       call .kept .1 .1 .1 .1 .1 .1 .0 ∙ at .loop .inv .4,
       omega (arith, call .ensures .0, at .loop .inv .4),
-      λ s top w. rw (took .0, took .1) (serving-arc sound (at .loop .inv .6 s top w) in-arcs (omega (arith, at .loop .inv .0))),
-      rw (took .0, took .1) (le-trans (work-arc sound (at .loop .keys) (at .loop .wait) (at .loop .a) (at .loop .inv .2 ∙ start .pre .0 .numbers) (omega (arith, long at, start .pre .0 .room)) in-arcs) (at .loop .inv .7)),
+      λ g o ext s top w. rw (took .0, took .1) (turn-arc (start .args .m) (now (start .args .table)) ext sound o (at .loop .keys) (at .loop .wait) numbers room in-arcs (omega (arith, at .loop .inv .0)) (at .loop .inv .6 g o ext s top w)),
+      rw (took .0, took .1) (le-trans (work-arc sound (at .loop .keys) (at .loop .wait) (at .loop .a) numbers room in-arcs) (at .loop .inv .7)),
     )
 
 same-length : tie.Need-same-length Inv-loop μ-loop
@@ -102,7 +105,7 @@ returns-3 c =
     let sound = start .pre .0 .sound in (
       at .loop .inv .5,
       (
-        λ s top w. serving-all sound (at .loop .inv .6 s top (serving-none sound w (start .args .u) (start .args .u * 20) (λ e l q. omega arith))) (λ e l q. omega arith),
+        λ g o ext s top w. turn-ends (start .args .m) (now (start .args .table)) ext sound o (at .loop .keys) (at .loop .wait) (low (at .before)) (omega (arith, c .loop-test .left)) (at .loop .inv .6 g o ext s top (turn-begins (start .args .m) (now (start .args .table)) ext sound o (now (start .args .keys)) (now (start .args .wait)) (low (at .before)) (start .pre .0 .room) w)),
         turned-less (lt-of-le-of-lt (at .loop .inv .7) (work-served (now (start .args .keys)) (now (start .args .wait)) (start .args .u) (omega (arith, start .pre .0 .room, low (at .before))) (omega (arith, at .before .if2 .left)))),
       ),
     )
