@@ -5,7 +5,7 @@ use mathlib.Core.Path.{_≡_, refl, sym, ap, subst, _∙_}
 use mathlib.Core.Logic.{_⊎_, inl, inr}
 use mathlib.Core.List.{List, [], _∷_, _++_}
 use lib.Dec.{ltb}
-use lib.ListN.{length, getD, set, replicate, length-set, length-replicate, length-append, replicate-append-replicate, List·getD-append}
+use lib.ListN.{length, getD, set, replicate, length-replicate, replicate-append-replicate, List·getD-append}
 use lib.Seq.{set-append-left, set-at, getD-at}
 use borrow.Author.Count.{below-more}
 use borrow.Author.Tests.{lt-ltb, le-ltb}
@@ -21,7 +21,7 @@ use Rattle.model.specs.Portals.{headOf}
 use Rattle.model.specs.LeastPath.{unlinked, keysTo}
 use Rattle.graph.specs.EdgeTable.{bare, tableGraph}
 use Rattle.graph.specs.Extending.{Extends, walk-extends}
-use Rattle.graph.specs.Searching.{Searched, keys-certified}
+use Rattle.graph.specs.Searching.{keys-certified}
 
 -- the weight of the arc from the goal to an end: 4,096 for each move and 4,096 more, so that it is above 0 even without moves; 0 where no moves lead from there to the goal
 unfoldable pub endWeight : ℕ → ℕ

@@ -1,6 +1,5 @@
 -- `keys_to_goal` lends `search_ends` a list of those that wait that is as long as the list of keys.
 use native.Mathlib.Omega.{arith}
-use mathlib.Core.Path.{_≡_}
 use Prim.Native.Nat.{_≤_}
 use lib.ListN.{length, length-take}
 use denote.Ref.{now}

@@ -1,7 +1,6 @@
 -- `search` ends in the least keys: at the outset the end portal waits, and where nobody does the list is certified.
 use native.Mathlib.Omega.{arith}
-use mathlib.Core.Path.{_≡_, _∙_}
-use Prim.Native.Nat.{_*_, _<_}
+use Prim.Native.Nat.{_<_}
 use lib.ListN.{length}
 use denote.Ref.{now}
 use borrow.Author.Needs.{needs}

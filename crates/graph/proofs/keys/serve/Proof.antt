@@ -2,7 +2,7 @@
 use native.Mathlib.Omega.{arith}
 use mathlib.Core.Path.{_≡_, refl, _∙_}
 use native.Mathlib.Nat.{le-trans, lt-of-le-of-lt}
-use Prim.Native.Nat.{ℕ, _+_, _-_, _*_, _≤_, _<_}
+use Prim.Native.Nat.{_+_, _-_, _*_, _≤_, _<_}
 use lib.ListN.{length, length-set}
 use denote.Ref.{now}
 use Rattle.laws.specs.Waiting.{work, work-served, work-arc}

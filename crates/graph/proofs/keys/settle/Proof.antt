@@ -1,9 +1,8 @@
 -- `settle` ends where the queue of those that wait is empty. The loop's invariant: what waited is kept, and the queue is that of those that wait.
 use native.Mathlib.Omega.{arith}
 use mathlib.Core.Path.{_≡_, refl, _∙_}
-use Prim.Native.Nat.{ℕ, _*_, _<_}
+use Prim.Native.Nat.{_*_}
 use lib.ListN.{length}
-use denote.Ref.{now}
 use Rattle.laws.specs.Waiting.{work}
 use Rattle.model.specs.Sectors.{sectors}
 use Rattle.graph.specs.EdgeTable.{tableGraph}
