@@ -2,12 +2,13 @@
 use Prim.Native.Nat.{ℕ, _+_, _*_, _/_, _%_, _≤_, _<_}
 use native.Mathlib.Decide.{ℕ-discrete}
 use native.Mathlib.Omega.{arith}
-use mathlib.Core.Path.{_≡_, refl, sym, ap, _∙_}
+use mathlib.Core.Path.{_≡_, refl, sym, ap, subst, _∙_}
+use mathlib.Core.Logic.{_⊎_, inl, inr}
 use mathlib.Core.List.{List}
 use lib.ListN.{length, getD, set, replicate, length-replicate}
 use lib.Seq.{getD-set-same, getD-set-other}
 use borrow.Author.Count.{below-more}
-use Rattle.laws.specs.Graph.{Sound, Settled, BothWays, turned-settled, settled-unique}
+use Rattle.laws.specs.Graph.{Sound, Settled, BothWays, none-less, settled-least, turned-settled, settled-unique, least-back, below-or}
 use Rattle.laws.specs.LeastCosts.{relaxed, outset, least-costs-settled}
 use Rattle.laws.specs.Offers.{offered, not-offered}
 use Rattle.laws.specs.Waiting.{Waiting, awaited, work, waiting-none}
@@ -17,7 +18,7 @@ use Rattle.model.specs.Portals.{headOf}
 use Rattle.model.specs.LeastPath.{unlinked, keysTo}
 use Rattle.graph.specs.EdgeTable.{bare, tableGraph}
 
--- a table whose arcs join numbers of the hall, a list of keys, and room for those that wait
+-- a table whose arcs join numbers of the hall and weigh no more than 256 moves, a list of keys, and room for those that wait
 pub record Searched (m : Measures) (table : List ℕ) (keys wait : ℕ) : Type 0 where
   pub few : sectors m ≤ 100
   pub few-rows : m .rows ≤ 10
@@ -25,6 +26,11 @@ pub record Searched (m : Measures) (table : List ℕ) (keys wait : ℕ) : Type 0
   pub numbers : keys ≡ sectors m * 20
   pub room : sectors m * 20 ≤ wait
   pub sound : Sound (tableGraph m table)
+  pub light : (e : ℕ) → e < sectors m * 400 → getD table e 0 ≤ 1048576
+
+-- with other lists that are long enough
+pub searched-in : {m : Measures} {table : List ℕ} {k w i j : ℕ} → Searched m table k w → i ≡ sectors m * 20 → sectors m * 20 ≤ j → Searched m table i j
+searched-in s numbers room = record { few = s .few; few-rows = s .few-rows; long = s .long; numbers = numbers; room = room; sound = s .sound; light = s .light }
 
 -- number u had its turn, if it is one of the n and waits: the work has not risen, and then it has fallen
 pub record Turned (n u : ℕ) (d p e q : List ℕ) : Type 0 where
@@ -111,3 +117,22 @@ starts {w = w} s l f g = rw (f, g, s .numbers) (waiting-none (s .sound) w (s .ro
 pub keys-found : (m : Measures) (table : List ℕ) {d : List ℕ} {e : ℕ} → Sound (tableGraph m table) → BothWays (tableGraph m table) → e < sectors m * 20 → Settled (tableGraph m table) e unlinked d → d ≡ keysTo (tableGraph m table) e
 unfolding keysTo
 keys-found m table sound back l ok = settled-unique (turned-settled back ok) (least-costs-settled (record { tail-in = sound .head-in; head-in = sound .tail-in }) l (omega arith))
+
+-- ---- the keys between two numbers
+module _ (m : Measures) (table : List ℕ) (sound : Sound (tableGraph m table)) (back : BothWays (tableGraph m table)) where
+  -- the keys to e are also the least costs from e
+  pub keys-certified : {e : ℕ} → e < sectors m * 20 → Settled (tableGraph m table) e unlinked (keysTo (tableGraph m table) e)
+  keys-certified {e} l =
+      let from = least-costs-settled {g = tableGraph m table} {top = unlinked} sound l (omega arith) in
+      subst (λ (d : List ℕ). Settled (tableGraph m table) e unlinked d) (keys-found m table sound back l from) from
+
+  no-more-back : {e v : ℕ} → e < sectors m * 20 → v < sectors m * 20 → getD (keysTo (tableGraph m table) v) e 0 ≤ getD (keysTo (tableGraph m table) e) v 0
+  no-more-back {e} {v} l k = go (below-or (getD (keysTo (tableGraph m table) e) v 0) unlinked)
+    where
+      go : (getD (keysTo (tableGraph m table) e) v 0 < unlinked) ⊎ (unlinked ≤ getD (keysTo (tableGraph m table) e) v 0) → getD (keysTo (tableGraph m table) v) e 0 ≤ getD (keysTo (tableGraph m table) e) v 0
+      go (inl t) = none-less (keys-certified k) (least-back back (settled-least (keys-certified l) v k t) .attained)
+      go (inr t) = omega (arith, keys-certified k .rough .capped e l)
+
+  -- a path from v to e has the key of the path back
+  pub keys-back : {e v : ℕ} → e < sectors m * 20 → v < sectors m * 20 → getD (keysTo (tableGraph m table) e) v 0 ≡ getD (keysTo (tableGraph m table) v) e 0
+  keys-back l k = omega (arith, no-more-back l k, no-more-back k l)

@@ -1,26 +1,25 @@
 -- The runs of all pairs as one list, the first of the least in the order of pairs, and that it is 01's pair.
 use Prim.Native.Nat.{ℕ, _+_, _*_, _/_, _%_, _≤_, _<_}
 use native.Mathlib.Omega.{arith}
-use native.Mathlib.Decide.{ℕ-discrete}
-use mathlib.Core.Path.{_≡_, refl, sym, ap, subst, _∙_}
+use mathlib.Core.Path.{_≡_, refl, sym, ap, _∙_}
 use mathlib.Core.Logic.{_⊎_, inl, inr}
 use mathlib.Core.Bool.{Bool, true, false, _&&_}
 use mathlib.Core.List.{List, [], _∷_}
 use lib.Dec.{ltb}
-use lib.ListN.{length, getD}
-use borrow.Author.Tests.{ltb-true, ltb-false, lt-ltb, le-ltb}
+use lib.ListN.{getD}
+use borrow.Author.Tests.{ltb-true, lt-ltb, le-ltb}
 use Rattle.laws.specs.Fold.{pick}
 use Rattle.laws.specs.Table.{tabulate, table-at}
-use Rattle.laws.specs.Graph.{Graph, below-or}
-use Rattle.laws.specs.Choice.{In, here, in-cons, Best, nothing, best, winner, pairs, leads-winner}
+use Rattle.laws.specs.Graph.{Graph}
+use Rattle.laws.specs.Choice.{In, in-cons, nothing, best, winner, pairs, leads-winner}
 use Rattle.laws.specs.Spans.{spans, cell, pairs-in-row, spans-none, spans-leads}
 use Rattle.model.specs.Sectors.{sectorOf}
-use Rattle.model.specs.Moves.{movesTo, joined, apart}
+use Rattle.model.specs.Moves.{joined, apart}
 use Rattle.model.specs.Halls.{Hall}
 use Rattle.model.specs.Portals.{isPortal, midCell, portalGraph}
 use Rattle.model.specs.LeastPath.{unlinked, keysTo, costOfKey}
 use Rattle.model.specs.LeastPathFirst.{Fits}
-use Rattle.model.specs.Route.{starts, ends, End, endOf, Pair, linkedPair, runOf, routePairs, chosenPair}
+use Rattle.model.specs.Route.{starts, ends, endOf, Pair, linkedPair, runOf, routePairs, chosenPair}
 use Rattle.graph.specs.Near.{portalMoves, start-test, end-test, last-moves}
 
 -- the run of a pair, or `unlinked` where a start or end is none or no path joins them
@@ -58,94 +57,23 @@ module _ (key leg last : ℕ) where
 unfoldable pub runIn : Graph → List ℕ → List ℕ → ℕ → ℕ → ℕ → ℕ
 runIn g legs lasts p q k = runFor (getD (keysTo g (q + k / 20)) (p + k % 20) 0) (getD legs (k % 20) 0) (getD lasts (k / 20) 0)
 
--- the entries to the end at place d, where the keys are those to it unless it is no end
-pub row-runs : (g : Graph) (legs lasts : List ℕ) (p q d : ℕ) {keys : List ℕ} {last : ℕ} → last ≡ getD lasts d 0 → (last < apart → keys ≡ keysTo g (q + d)) → (c : ℕ) → c < 20 → runFor (getD keys (p + c) 0) (getD legs c 0) last ≡ runIn g legs lasts p q (d * 20 + c)
-unfolding runIn
-row-runs g legs lasts p q d {keys} {last} e found c l =
-    let end : (d * 20 + c) / 20 ≡ d = omega arith in
-    let start : (d * 20 + c) % 20 ≡ c = omega arith in
-    rw (end, start, ← e) (go (below-or last apart))
-  where
-    go : (last < apart) ⊎ (apart ≤ last) → runFor (getD keys (p + c) 0) (getD legs c 0) last ≡ runFor (getD (keysTo g (q + d)) (p + c) 0) (getD legs c 0) last
-    go (inl k) = rw (found k)
-    go (inr k) = sym (no-last (getD keys (p + c) 0) (getD legs c 0) last k) ∙ no-last (getD (keysTo g (q + d)) (p + c) 0) (getD legs c 0) last k
-
 -- the run of pair j, start by start
 abbrev pub nth : List ℕ → ℕ → ℕ
 nth runs j = getD runs (j % 20 * 20 + j / 20) 0
 
--- the same, with no run past the last pair
-unfoldable pub runAt : List ℕ → ℕ → ℕ
-runAt runs j = pick (ltb j 400) (nth runs j) unlinked
-
-pub run-in : (runs : List ℕ) (j : ℕ) → j < 400 → nth runs j ≡ runAt runs j
-unfolding runAt
-run-in runs j l = rw (lt-ltb j 400 l)
-
-pub run-past : (runs : List ℕ) (j : ℕ) → 400 ≤ j → unlinked ≡ runAt runs j
-unfolding runAt
-run-past runs j l = rw (le-ltb j 400 l)
-
-pub lesser-yes : (runs : List ℕ) (j r : ℕ) {x y : ℕ} → x ≡ runAt runs j → y ≡ runAt runs r → x < y → j ≡ pick (ltb (runAt runs j) (runAt runs r)) j r
-lesser-yes runs j r {x} {y} e f l = rw (← e, ← f, lt-ltb x y l)
-
-pub lesser-no : (runs : List ℕ) (j r : ℕ) {x y : ℕ} → x ≡ runAt runs j → y ≡ runAt runs r → y ≤ x → r ≡ pick (ltb (runAt runs j) (runAt runs r)) j r
-lesser-no runs j r {x} {y} e f l = rw (← e, ← f, le-ltb x y l)
+-- in a list of all runs it is that of start j / 20 and end j % 20
+pub nth-is : (g : Graph) (legs lasts : List ℕ) (p q : ℕ) {runs : List ℕ} → runs ≡ tabulate (runIn g legs lasts p q) 400 0 → (j : ℕ) → j < 400 → nth runs j ≡ runFor (getD (keysTo g (q + j % 20)) (p + j / 20) 0) (getD legs (j / 20) 0) (getD lasts (j % 20) 0)
+unfolding runIn
+nth-is g legs lasts p q are j l =
+    let k : j % 20 * 20 + j / 20 < 400 = omega arith in
+    let d : (j % 20 * 20 + j / 20) / 20 ≡ j % 20 = omega arith in
+    let c : (j % 20 * 20 + j / 20) % 20 ≡ j / 20 = omega arith in
+    table-at (runIn g legs lasts p q) 400 are (j % 20 * 20 + j / 20) 0 k ∙ rw (d, c)
 
 -- of the first n, the first of the least: none, or pair r
 pub data Foremost (runs : List ℕ) (n r : ℕ) : Type 0 where
   no-pair : r ≡ 400 → ((j : ℕ) → j < n → unlinked ≤ nth runs j) → Foremost runs n r
   pair : r < 400 → nth runs r < unlinked → ((j : ℕ) → j < r → nth runs r < nth runs j) → ((j : ℕ) → j < n → nth runs r ≤ nth runs j) → Foremost runs n r
-
-pub foremost-none : (runs : List ℕ) → Foremost runs 0 400
-foremost-none runs = no-pair refl (λ j l. absurd (omega arith))
-
--- what holds of those before and of the last holds of all
-one-more : (P : ℕ → Type 0) {n : ℕ} → ((j : ℕ) → j < n → P j) → P n → (j : ℕ) → j < n + 1 → P j
-one-more P {n} before last j l = go (ℕ-discrete j n)
-  where
-    go : Dec (j ≡ n) → P j
-    go (yes e) = subst P (sym e) last
-    go (no e) = before j (omega arith)
-
-pub foremost-turn : {runs : List ℕ} {n best r : ℕ} → Foremost runs n best → n < 400 → r ≡ pick (ltb (runAt runs n) (runAt runs best)) n best → Foremost runs (n + 1) r
-unfolding runAt
-foremost-turn {runs} {n} {best} {r} f l e = rw e (go (ltb (runAt runs n) (runAt runs best)) refl)
-  where
-    now : runAt runs n ≡ nth runs n
-    now = rw (lt-ltb n 400 l)
-
-    go : (t : Bool) → ltb (runAt runs n) (runAt runs best) ≡ t → Foremost runs (n + 1) (pick t n best)
-    go true t = wins f
-      where
-        less : runAt runs n < runAt runs best
-        less = ltb-true (runAt runs n) (runAt runs best) t
-
-        wins : Foremost runs n best → Foremost runs (n + 1) n
-        wins (no-pair q all) =
-            let top : runAt runs best ≡ unlinked = rw q refl in
-            pair l (omega (arith, less, now, top)) (λ j k. omega (arith, less, now, top, all j k)) (one-more (λ j. nth runs n ≤ nth runs j) (λ j k. omega (arith, less, now, top, all j k)) (omega arith))
-        wins (pair k below more least) =
-            let old : runAt runs best ≡ nth runs best = rw (lt-ltb best 400 k) in
-            pair l (omega (arith, less, now, old)) (λ j i. omega (arith, less, now, old, least j i)) (one-more (λ j. nth runs n ≤ nth runs j) (λ j i. omega (arith, less, now, old, least j i)) (omega arith))
-    go false t = stays f
-      where
-        more : runAt runs best ≤ runAt runs n
-        more = ltb-false (runAt runs n) (runAt runs best) t
-
-        stays : Foremost runs n best → Foremost runs (n + 1) best
-        stays (no-pair q all) =
-            let top : runAt runs best ≡ unlinked = rw q refl in
-            no-pair q (one-more (λ j. unlinked ≤ nth runs j) all (omega (arith, more, now, top)))
-        stays (pair k below first least) =
-            let old : runAt runs best ≡ nth runs best = rw (lt-ltb best 400 k) in
-            pair k below first (one-more (λ j. nth runs best ≤ nth runs j) least (omega (arith, more, now, old)))
-
-pub foremost-end : {runs : List ℕ} {n r : ℕ} → Foremost runs n r → n ≤ 400 → 400 ≤ n → Foremost runs 400 r
-foremost-end {runs} {n} {r} f a b = let all : n ≡ 400 = omega arith in rw all at f
-
--- for `search (needs, foremost)`
-pub ruleset foremost = (foremost-none, foremost-turn, foremost-end)
 
 -- ---- the pair
 in-nothing : {A : Type 0} {x : A} → In x [] → ⊥
@@ -181,14 +109,6 @@ module _ (h : Hall) (source goal : ℕ) where
     unfolding routePairs starts ends cells
     pairs-are = pairs-in-row linkedPair (endOf h (portalGraph h) goal) (λ p. isPortal h p && joined (h .scaled) source (midCell h p)) (λ p. isPortal h p && joined (h .scaled) (midCell h p) goal) (sectorOf source * 20) (sectorOf goal * 20)
 
-    nth-is : (j : ℕ) → j < 400 → nth runs j ≡ runFor (keyAt j) (legAt j) (lastAt j)
-    unfolding runIn
-    nth-is j l =
-        let k : j % 20 * 20 + j / 20 < 400 = omega arith in
-        let d : (j % 20 * 20 + j / 20) / 20 ≡ j % 20 = omega arith in
-        let c : (j % 20 * 20 + j / 20) % 20 ≡ j / 20 = omega arith in
-        table-at (runIn (portalGraph h) (portalMoves h source) (portalMoves h goal) (sectorOf source * 20) (sectorOf goal * 20)) 400 are (j % 20 * 20 + j / 20) 0 k ∙ rw (d, c)
-
     cell-is : (j : ℕ) → j < 400 → cells j ≡ pick (ltb (legAt j) apart) (pick (ltb (lastAt j) apart) (pick (ltb (keyAt j) unlinked) (pairAt j ∷ []) []) []) []
     unfolding cells linkedPair endOf
     cell-is j l = rw (start-test h fits source (j / 20) (omega arith), end-test h fits goal (j % 20) (omega arith))
@@ -203,7 +123,7 @@ module _ (h : Hall) (source goal : ℕ) where
     place j l = go (ltb (legAt j) apart) (ltb (lastAt j) apart) (ltb (keyAt j) unlinked) refl refl refl
       where
         read : (a b c : Bool) → ltb (legAt j) apart ≡ a → ltb (lastAt j) apart ≡ b → ltb (keyAt j) unlinked ≡ c → (cells j ≡ pick a (pick b (pick c (pairAt j ∷ []) []) []) []) × (nth runs j ≡ pick (a && (b && c)) (costOfKey (keyAt j) + lastAt j) unlinked)
-        read a b c e f g = (cell-is j l ∙ rw (e, f, g), nth-is j l ∙ rw (e, f, g))
+        read a b c e f g = (cell-is j l ∙ rw (e, f, g), nth-is (portalGraph h) (portalMoves h source) (portalMoves h goal) (sectorOf source * 20) (sectorOf goal * 20) are j l ∙ rw (e, f, g))
 
         go : (a b c : Bool) → ltb (legAt j) apart ≡ a → ltb (lastAt j) apart ≡ b → ltb (keyAt j) unlinked ≡ c → Place j
         go true true true e f g =

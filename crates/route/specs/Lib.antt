@@ -1,4 +1,5 @@
 pub mod Choosing
+pub mod FirstPair
 pub mod PortalPaths
 pub mod Stepping
 pub mod Finding

@@ -9,8 +9,7 @@ ghost use Rattle.model.specs.Store.{decode};
 ghost use Rattle.graph.specs.EdgeTable.{Opened};
 ghost use Rattle.graph.specs.Following.{Linked};
 ghost use Rattle.route.specs.Finding.{foundAnswer, foundInto, lastRoute, Paired, pairRoute};
-use crate::choice::choose;
-use crate::choice::fill_runs;
+use crate::choice::choose_pair;
 use crate::steps::step_count;
 use crate::steps::write_last;
 use crate::steps::write_steps;
@@ -88,14 +87,12 @@ fn through_lists(
 {
     let mut legs: [u8; 20] = [255; 20];
     let mut lasts: [u8; 20] = [255; 20];
-    let mut runs: [u32; 400] = [0; 400];
     portal_moves(st, m, source, &mut legs);
     portal_moves(st, m, goal, &mut lasts);
     fill_edges(st, m, table);
     let p = source / 100 * 20;
     let q = goal / 100 * 20;
-    fill_runs(m, table, p, q, &legs, &lasts, keys, &mut runs);
-    let k = choose(&runs);
+    let k = choose_pair(m, table, p, q, &legs, &lasts, keys);
     if 400 <= k {
         return Routed::NoRoute;
     }

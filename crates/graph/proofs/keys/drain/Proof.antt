@@ -8,8 +8,9 @@ use Prim.Native.Nat.{ℕ, _+_, _-_, _≤_, _<_}
 use lib.ListN.{length, getD}
 use denote.Ref.{now}
 use Rattle.laws.specs.Graph.{Graph}
-use Rattle.laws.specs.Waiting.{Waiting, work}
+use Rattle.laws.specs.Waiting.{work}
 use Rattle.graph.specs.EdgeTable.{tableGraph}
+use Rattle.graph.specs.Extending.{Keeps}
 use Rattle.graph.specs.Searching.{Turned, Lined}
 use Rattle.graph.proofs.keys.drain.Statement.{statement}
 use Rattle.graph.proofs.keys.drain.Tie as tie
@@ -20,7 +21,7 @@ record Draining (g : Graph) (d₀ p₀ q₀ : List ℕ) (t₀ : ℕ) (d p q : Li
   long-p : length p ≡ length p₀
   long-q : length q ≡ length q₀
   room : t ≤ length q
-  kept : (s top : ℕ) → Waiting g s top d₀ p₀ → Waiting g s top d p
+  kept : Keeps g d₀ p₀ d p
   turns : ((h ≡ 0) × (t ≡ t₀) × (d ≡ d₀) × (p ≡ p₀) × (q ≡ q₀)) ⊎ (work d p < work d₀ p₀)
 
 -- one more turn
@@ -31,14 +32,14 @@ module _ {g : Graph} {d₀ p₀ q₀ d p q : List ℕ} {t₀ t h u : ℕ} (now :
       let waits : 0 < getD p u 0 = rw (first, w .3) (lined .waits some) in
       rw (← w .2, ← w .3) (turn .fallen (omega (arith, lined .low some, now .long-d)) waits)
 
-  draining-more : {e f r : List ℕ} {s : ℕ} → length e ≡ length d → length f ≡ length p → length r ≡ length q → s ≤ length q → ((s top : ℕ) → Waiting g s top d p → Waiting g s top e f) → Turned (length d) u d p e f → Draining g d₀ p₀ q₀ t₀ e f r s (h + 1)
+  draining-more : {e f r : List ℕ} {s : ℕ} → length e ≡ length d → length f ≡ length p → length r ≡ length q → s ≤ length q → Keeps g d p e f → Turned (length d) u d p e f → Draining g d₀ p₀ q₀ t₀ e f r s (h + 1)
   draining-more le lf lr l k turn =
       record {
         long-d = le ∙ now .long-d;
         long-p = lf ∙ now .long-p;
         long-q = lr ∙ now .long-q;
         room = omega arith;
-        kept = λ s top w. k s top (now .kept s top w);
+        kept = λ g′ o ext s top w. k g′ o ext s top (now .kept g′ o ext s top w);
         turns = inr (⊎-elim (first-falls turn) (λ fell. lt-of-le-of-lt (turn .risen) fell) (now .turns));
       }
 
@@ -56,7 +57,7 @@ abbrev At : tie.After-slice-known7 Inv-loop μ-loop → tie.At-loop Inv-loop μ-
 At c = c .before .before .before .before .before .before .before .before .before .before .before .before
 
 loop-holds : tie.Need-loop-holds Inv-loop μ-loop
-loop-holds c = record { long-d = refl; long-p = refl; long-q = refl; room = c .before .before .before .before .pre .1; kept = λ s top w. w; turns = inl (refl, refl, refl, refl, refl) }
+loop-holds c = record { long-d = refl; long-p = refl; long-q = refl; room = c .before .before .before .before .pre .1; kept = λ g o ext s top w. w; turns = inl (refl, refl, refl, refl, refl) }
 
 mul-u : tie.Need-mul-u Inv-loop μ-loop
 mul-u c = omega (arith, c .loop-test .taken, c .before .loop .inv .room)

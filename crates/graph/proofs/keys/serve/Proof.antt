@@ -6,8 +6,9 @@ use mathlib.Core.Path.{_≡_, _∙_}
 use borrow.Author.Needs.{needs}
 use lib.ListN.{length-set}
 use denote.Ref.{now}
-use Rattle.laws.specs.Waiting.{serving-none, work-served}
+use Rattle.laws.specs.Waiting.{work-served}
 use Rattle.model.specs.Sectors.{sectors}
+use Rattle.graph.specs.Extending.{turn-begins}
 use Rattle.graph.specs.Searching.{turned-none, turned-less}
 use Rattle.graph.proofs.keys.serve.Statement.{statement}
 use Rattle.graph.proofs.keys.serve.Tie as tie
@@ -26,13 +27,13 @@ low : (c : tie.Else2) → S c .args .u < sectors (S c .args .m) * 20
 low c = omega (arith, c .before .before .if1 .left, S c .pre .0 .numbers)
 
 returns : tie.Need-returns
-returns c = (c .before .before .before .before .before .pre .1, (λ s top w. w, turned-none (λ l _. omega (arith, c .if1 .taken))))
+returns c = (c .before .before .before .before .before .pre .1, (λ g o ext s top w. w, turned-none (λ l _. omega (arith, c .if1 .taken))))
 
 slice-read-if2 : tie.Need-slice-read-if2
 slice-read-if2 c = search needs
 
 returns-2 : tie.Need-returns-2
-returns-2 c = (c .before .before .before .before .before .before .before .pre .1, (λ s top w. w, turned-none (λ _ l. omega (arith, c .if2 .taken))))
+returns-2 c = (c .before .before .before .before .before .before .before .pre .1, (λ g o ext s top w. w, turned-none (λ _ l. omega (arith, c .if2 .taken))))
 
 slice-write-wait : tie.Need-slice-write-wait
 slice-write-wait c = search needs
@@ -58,7 +59,7 @@ returns-3 c =
     let took = Call c .take-turn .ensures in (
       took .0,
       (
-        λ s top w. took .1 .done s top (serving-none (start .pre .0 .sound) w u (u * 20) (λ e l q. omega arith)),
+        λ g o ext s top w. took .1 .done g o ext s top (turn-begins (start .args .m) (now (start .args .table)) ext (start .pre .0 .sound) o (now (start .args .keys)) (now (start .args .wait)) (low (Asked c)) (start .pre .0 .room) w),
         turned-less (lt-of-le-of-lt (took .1 .light) (work-served (now (start .args .keys)) (now (start .args .wait)) u (omega (arith, start .pre .0 .room, low (Asked c))) (omega (arith, Asked c .if2 .left)))),
       ),
     )

@@ -2,18 +2,20 @@
 use native.Mathlib.Omega.{arith}
 use mathlib.Core.Path.{_≡_, refl, _∙_}
 use native.Mathlib.Nat.{le-trans}
-use Prim.Native.Nat.{ℕ, _+_, _-_, _*_, _≤_, _<_}
+use Prim.Native.Nat.{_+_, _-_, _*_, _≤_, _<_}
 use lib.ListN.{length}
-use Rattle.laws.specs.Waiting.{Serving, serving-arc, serving-all, work, work-arc}
+use denote.Ref.{now}
+use Rattle.laws.specs.Waiting.{work, work-arc}
 use Rattle.model.specs.Sectors.{sectors}
 use Rattle.graph.specs.EdgeTable.{tableGraph}
+use Rattle.graph.specs.Extending.{Serves, turn-arc, turn-ends}
 use Rattle.graph.proofs.keys.take_arcs.Statement.{statement}
 use Rattle.graph.proofs.keys.take_arcs.Tie as tie
 
 abbrev Inv-loop : tie.InvT-loop
 Inv-loop m table u keys₀ wait₀ queue₀ end t₀ a₀ last keys wait queue t a =
     (u * 20 ≤ a) × (a ≤ u * 20 + 20) × (length keys ≡ length keys₀) × (length wait ≡ length wait₀) × (length queue ≡ length queue₀) × (t ≤ length queue₀)
-    × ((s top : ℕ) → Serving (tableGraph m table) s top keys₀ wait₀ u (u * 20) → Serving (tableGraph m table) s top keys wait u a)
+    × Serves (tableGraph m table) u keys₀ wait₀ a keys wait
     × (work keys wait ≤ work keys₀ wait₀)
 
 abbrev μ-loop : tie.MeasureT-loop
@@ -33,7 +35,7 @@ add-last : tie.Need-add-last Inv-loop μ-loop
 add-last c = omega (arith, S c .pre .0 .few, S c .pre .2)
 
 loop-holds : tie.Need-loop-holds Inv-loop μ-loop
-loop-holds c = (omega arith, omega arith, refl, refl, refl, S c .pre .1, λ s top w. w, omega arith)
+loop-holds c = (omega arith, omega arith, refl, refl, refl, S c .pre .1, λ g o ext s top w. w, omega arith)
 
 offer-requires : tie.Need-offer-requires Inv-loop μ-loop
 offer-requires c κs =
@@ -55,6 +57,8 @@ loop-again c =
     let inside : at .loop .a < start .args .u * 20 + 20 = omega (arith, In c .loop-test .taken) in
     let in-arcs : at .loop .a < sectors (start .args .m) * 400 = omega (arith, start .pre .2) in
     let sound = start .pre .0 .sound in
+    let numbers : length (at .loop .keys) ≡ sectors (start .args .m) * 20 = at .loop .inv .2 ∙ start .pre .0 .numbers in
+    let room : sectors (start .args .m) * 20 ≤ length (at .loop .wait) = omega (arith, at .loop .inv .3, start .pre .0 .room) in
     let took = call .ensures .1 in (
       omega (arith, at .loop .inv .0),
       omega arith,
@@ -62,8 +66,8 @@ loop-again c =
       call .kept .1 .1 .1 .1 .1 .0 ∙ at .loop .inv .3,
       call .kept .1 .1 .1 .1 .1 .1 .0 ∙ at .loop .inv .4,
       omega (arith, call .ensures .0, at .loop .inv .4),
-      λ s top w. rw (took .0, took .1) (serving-arc sound (at .loop .inv .6 s top w) in-arcs (omega (arith, at .loop .inv .0))),
-      rw (took .0, took .1) (le-trans (work-arc sound (at .loop .keys) (at .loop .wait) (at .loop .a) (at .loop .inv .2 ∙ start .pre .0 .numbers) (omega (arith, at .loop .inv .3, start .pre .0 .room)) in-arcs) (at .loop .inv .7)),
+      λ g o ext s top w. rw (took .0, took .1) (turn-arc (start .args .m) (now (start .args .table)) ext sound o (at .loop .keys) (at .loop .wait) numbers room in-arcs (omega (arith, at .loop .inv .0)) (at .loop .inv .6 g o ext s top w)),
+      rw (took .0, took .1) (le-trans (work-arc sound (at .loop .keys) (at .loop .wait) (at .loop .a) numbers room in-arcs) (at .loop .inv .7)),
     )
 
 same-length : tie.Need-same-length Inv-loop μ-loop
@@ -81,7 +85,7 @@ returns c =
     let start = S (at .before) in (
       at .loop .inv .5,
       record {
-        done = λ s top w. serving-all (start .pre .0 .sound) (at .loop .inv .6 s top w) (λ e l q. omega arith);
+        done = λ g o ext s top w. turn-ends (start .args .m) (now (start .args .table)) ext (start .pre .0 .sound) o (at .loop .keys) (at .loop .wait) (start .pre .2) (omega (arith, c .loop-test .left)) (at .loop .inv .6 g o ext s top w);
         light = at .loop .inv .7;
       },
     )

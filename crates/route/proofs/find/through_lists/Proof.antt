@@ -1,7 +1,7 @@
 -- `through_lists` chooses a pair and takes the route over it.
 use native.Mathlib.Omega.{arith}
 use Prim.Native.Nat.{ℕ, _+_, _*_, _/_, _%_, _<_}
-use mathlib.Core.Path.{_≡_, refl, sym, ap, _∙_}
+use mathlib.Core.Path.{_≡_, refl, sym, ap, subst, _∙_}
 use mathlib.Core.List.{List}
 use lib.ListN.{length, getD}
 use denote.Ref.{now}
@@ -9,14 +9,13 @@ use Rattle.laws.specs.Table.{tabulate}
 use Rattle.laws.specs.Graph.{Graph}
 use Rattle.model.specs.Sectors.{sectors, sectorOf}
 use Rattle.model.specs.Portals.{portalGraph}
-use Rattle.model.specs.LeastPathFirst.{Fits}
 use Rattle.model.specs.Halls.{Hall}
 use Rattle.model.specs.Route.{Found, throughPortals}
 use Rattle.model.specs.Store.{decode}
 use Rattle.graph.specs.Reading.{fits-of, measures-are}
 use Rattle.graph.specs.Following.{Linked, graph-is, searched-of, searched-both-ways}
 use Rattle.graph.specs.Near.{portalMoves}
-use Rattle.route.specs.Choosing.{runIn, Chosen, chosen-none, chosen-some}
+use Rattle.route.specs.Choosing.{runIn, Foremost, Chosen, chosen-none, chosen-some}
 use Rattle.route.specs.Finding.{foundAnswer, foundInto, pair-found, pair-paired, pairRoute, none-found}
 use borrow.Author.Needs.{needs}
 use Rattle.route.proofs.find.through_lists.Statement.{statement}
@@ -24,9 +23,6 @@ use Rattle.route.proofs.find.through_lists.Tie as tie
 
 abbrev S : tie.After-fill-edges → tie.Start
 S c = c .before .before .before .before .before .before .before .before .before .before .before .before
-
-abbrev E : tie.After-runs → tie.After-fill-edges
-E c = c .before .before .before .before .before .before .before
 
 abbrev hall : tie.Start → Hall
 hall s = decode (now (s .args .st))
@@ -41,31 +37,31 @@ same-runs p q e f k = rw (e, f, k)
 same-route : (h : Hall) (goal p e i j : ℕ) {a b x y : List ℕ} → a ≡ b → x ≡ y → pairRoute h goal p e (getD a i 0) (getD x j 0) ≡ pairRoute h goal p e (getD b i 0) (getD y j 0)
 same-route h goal p e i j f k = rw (f, k)
 
-abbrev R : tie.After-choose → tie.After-fill-runs
-R c = c .before .before .before .before .before
+abbrev E : tie.After-choose-pair-arg2 → tie.After-fill-edges
+E c = c .before .before .before .before .before .before
 
-abbrev B : tie.After-choose → tie.After-fill-edges
-B c = E (R c .before)
+abbrev B : tie.After-choose-pair → tie.After-fill-edges
+B c = E (c .before)
 
-legs-are : (c : tie.After-choose) → B c .before .before .before .before .before .before .portal-moves .last .1 .1 .1 .0 ≡ portalMoves (hall (S (B c))) (S (B c) .args .source)
+legs-are : (c : tie.After-choose-pair) → B c .before .before .before .before .before .before .portal-moves .last .1 .1 .1 .0 ≡ portalMoves (hall (S (B c))) (S (B c) .args .source)
 legs-are c = B c .before .before .before .before .before .before .portal-moves .ensures
 
-lasts-are : (c : tie.After-choose) → B c .before .before .before .portal-moves2 .last .1 .1 .1 .0 ≡ portalMoves (hall (S (B c))) (S (B c) .args .goal)
+lasts-are : (c : tie.After-choose-pair) → B c .before .before .before .portal-moves2 .last .1 .1 .1 .0 ≡ portalMoves (hall (S (B c))) (S (B c) .args .goal)
 lasts-are c = B c .before .before .before .portal-moves2 .ensures
 
-runs-are : (c : tie.After-choose) → R c .fill-runs .last .1 .1 .1 .1 .1 .1 .1 .0 ≡ tabulate (runIn (portalGraph (hall (S (B c)))) (portalMoves (hall (S (B c))) (S (B c) .args .source)) (portalMoves (hall (S (B c))) (S (B c) .args .goal)) (sectorOf (S (B c) .args .source) * 20) (sectorOf (S (B c) .args .goal) * 20)) 400 0
-runs-are c = R c .fill-runs .ensures ∙ same-runs (sectorOf (S (B c) .args .source) * 20) (sectorOf (S (B c) .args .goal) * 20) (graph-is (linked (B c))) (legs-are c) (lasts-are c)
+foremost : (c : tie.After-choose-pair) → Foremost (tabulate (runIn (portalGraph (hall (S (B c)))) (portalMoves (hall (S (B c))) (S (B c) .args .source)) (portalMoves (hall (S (B c))) (S (B c) .args .goal)) (sectorOf (S (B c) .args .source) * 20) (sectorOf (S (B c) .args .goal) * 20)) 400 0) 400 (c .choose-pair .result)
+foremost c = subst (λ (runs : List ℕ). Foremost runs 400 (c .choose-pair .result)) (same-runs (sectorOf (S (B c) .args .source) * 20) (sectorOf (S (B c) .args .goal) * 20) (graph-is (linked (B c))) (legs-are c) (lasts-are c)) (c .choose-pair .ensures)
 
-chosen : (c : tie.After-choose) → c .choose .result < 400 → Chosen (hall (S (B c))) (S (B c) .args .source) (S (B c) .args .goal) (c .choose .result)
-chosen c l = chosen-some (hall (S (B c))) (S (B c) .args .source) (S (B c) .args .goal) (fits-of (S (B c) .pre .0)) (runs-are c) (c .choose .ensures) l
+chosen : (c : tie.After-choose-pair) → c .choose-pair .result < 400 → Chosen (hall (S (B c))) (S (B c) .args .source) (S (B c) .args .goal) (c .choose-pair .result)
+chosen c l = chosen-some (hall (S (B c))) (S (B c) .args .source) (S (B c) .args .goal) (fits-of (S (B c) .pre .0)) refl (foremost c) l
 
 -- the route over it, with leg and last moves as they were read
-found-is : (c : tie.After-choose) → c .choose .result < 400 → let s = S (B c) in let k = c .choose .result in
+found-is : (c : tie.After-choose-pair) → c .choose-pair .result < 400 → let s = S (B c) in let k = c .choose-pair .result in
     throughPortals (hall s) (portalGraph (hall s)) (s .args .source) (s .args .goal)
     ≡ pairRoute (hall s) (s .args .goal) (sectorOf (s .args .source) * 20 + k / 20) (sectorOf (s .args .goal) * 20 + k % 20) (getD (B c .before .before .before .before .before .before .portal-moves .last .1 .1 .1 .0) (k / 20) 0) (getD (B c .before .before .before .portal-moves2 .last .1 .1 .1 .0) (k % 20) 0)
 found-is c l =
     let s = S (B c) in
-    let k = c .choose .result in
+    let k = c .choose-pair .result in
     pair-found (hall s) (fits-of (s .pre .0)) (s .args .source) (s .args .goal) (chosen c l)
     ∙ same-route (hall s) (s .args .goal) (sectorOf (s .args .source) * 20 + k / 20) (sectorOf (s .args .goal) * 20 + k % 20) (k / 20) (k % 20) (sym (legs-are c)) (sym (lasts-are c))
 
@@ -90,25 +86,16 @@ mul-p c = search needs
 mul-q : tie.Need-mul-q
 mul-q c = search needs
 
-slice-aggregate-fill-runs : tie.Need-slice-aggregate-fill-runs
-slice-aggregate-fill-runs c = search needs
+slice-aggregate-choose-pair : tie.Need-slice-aggregate-choose-pair
+slice-aggregate-choose-pair c = search needs
 
-slice-aggregate-fill-runs-2 : tie.Need-slice-aggregate-fill-runs-2
-slice-aggregate-fill-runs-2 c = search needs
+slice-aggregate-choose-pair-2 : tie.Need-slice-aggregate-choose-pair-2
+slice-aggregate-choose-pair-2 c = search needs
 
-slice-aggregate-fill-runs-3 : tie.Need-slice-aggregate-fill-runs-3
-slice-aggregate-fill-runs-3 c = search needs
-
-fill-runs-requires : tie.Need-fill-runs-requires
-fill-runs-requires c κs =
+choose-pair-requires : tie.Need-choose-pair-requires
+choose-pair-requires c κs =
     let s = S (E c) in
-    ((searched-of (linked (E c)), omega (arith, s .pre .1), omega (arith, s .pre .2), E c .before .before .before .before .before .before .portal-moves .kept .1 .1 .1 .0, E c .before .before .before .portal-moves2 .kept .1 .1 .1 .0, refl), searched-both-ways (linked (E c)))
-
-slice-aggregate-choose : tie.Need-slice-aggregate-choose
-slice-aggregate-choose c = search needs
-
-choose-requires : tie.Need-choose-requires
-choose-requires c κs = search needs
+    ((searched-of (linked (E c)), omega (arith, s .pre .1), omega (arith, s .pre .2), E c .before .before .before .before .before .before .portal-moves .kept .1 .1 .1 .0, E c .before .before .before .portal-moves2 .kept .1 .1 .1 .0), searched-both-ways (linked (E c)))
 
 same-length : tie.Need-same-length
 same-length c = search needs
@@ -117,7 +104,10 @@ same-length-2 : tie.Need-same-length-2
 same-length-2 c = search needs
 
 returns : tie.Need-returns
-returns c = let s = S (B (c .before)) in none-found _ _ _ _ _ (chosen-none (hall s) (s .args .source) (s .args .goal) (fits-of (s .pre .0)) (runs-are (c .before)) (c .before .choose .ensures) (c .if1 .taken))
+returns c =
+    let k = c .before .before .before in
+    let s = S (B k) in
+    none-found _ _ _ _ _ (chosen-none (hall s) (s .args .source) (s .args .goal) (fits-of (s .pre .0)) refl (foremost k) (c .if1 .taken))
 
 array-read-leg : tie.Need-array-read-leg
 array-read-leg c = search needs
@@ -134,9 +124,10 @@ add-through-pair-2 c = search needs
 through-pair-requires : tie.Need-through-pair-requires
 through-pair-requires c κs =
     let l = c .before .before .before in
-    let s = S (B (l .before)) in (
-      record { opened = s .pre .0; filled = B (l .before) .fill-edges .ensures; numbers = R (l .before) .fill-runs .kept .1 .1 .1 .1 .1 .1 .0 ∙ s .pre .4 },
-      pair-paired (hall s) (fits-of (s .pre .0)) (s .args .source) (s .args .goal) (chosen (l .before) (l .if1 .left)) (omega (arith, s .pre .2, ap sectors (measures-are (s .pre .0)))),
+    let k = l .before .before .before in
+    let s = S (B k) in (
+      record { opened = s .pre .0; filled = B k .fill-edges .ensures; numbers = k .choose-pair .kept .1 .1 .1 .1 .1 .1 .0 ∙ s .pre .4 },
+      pair-paired (hall s) (fits-of (s .pre .0)) (s .args .source) (s .args .goal) (chosen k (l .if1 .left)) (omega (arith, s .pre .2, ap sectors (measures-are (s .pre .0)))),
     )
 
 same-length-3 : tie.Need-same-length-3
@@ -152,8 +143,9 @@ returns-2 : tie.Need-returns-2
 returns-2 c =
     let l = c .before .before .before .before .before .before .before .before in
     let call = c .before .before .before .before .through-pair in
-    let f = found-is (l .before) (l .if1 .left) in
-    (call .ensures .0 ∙ ap (foundAnswer _) (sym f), call .ensures .1 ∙ ap (λ (x : Found). foundInto x (now (S (B (l .before)) .args .list))) (sym f))
+    let k = l .before .before .before in
+    let f = found-is k (l .if1 .left) in
+    (call .ensures .0 ∙ ap (foundAnswer _) (sym f), call .ensures .1 ∙ ap (λ (x : Found). foundInto x (now (S (B k) .args .list))) (sym f))
 
 pub through-lists-spec : {M : Type 1} → statement M
 through-lists-spec =
@@ -166,12 +158,9 @@ through-lists-spec =
     fill-edges-requires
     mul-p
     mul-q
-    slice-aggregate-fill-runs
-    slice-aggregate-fill-runs-2
-    slice-aggregate-fill-runs-3
-    fill-runs-requires
-    slice-aggregate-choose
-    choose-requires
+    slice-aggregate-choose-pair
+    slice-aggregate-choose-pair-2
+    choose-pair-requires
     same-length
     same-length-2
     returns
