@@ -132,7 +132,7 @@ costs-read {m} {st} o s = rw (o .read) (λ l.
     sum : (a b i : ℕ) → 4 + a + b + i ≡ 4 + a + (b + i)
     sum a b i = omega arith
 
--- the moves from cell i of sector s, over what the store has from place 4 + n + 100 × s on
-pub moves-read : {m : Measures} {st : List ℕ} → Opened m st → (s k n i : ℕ) {x : List ℕ} → s < sectors m → x ≡ moves (take k (drop (4 + n + s * 100) st)) i → k ≡ 100 → n ≡ cells m → x ≡ moves (costsOf (decode st .scaled) s) i
+-- a part of the store that is the scaled costs of sector s
+pub costs-part : {m : Measures} {st : List ℕ} → Opened m st → (s k n : ℕ) → s < sectors m → k ≡ 100 → n ≡ cells m → take k (drop (4 + n + s * 100) st) ≡ costsOf (decode st .scaled) s
 unfolding region
-moves-read o s k n i l e a b = e ∙ rw (a, b) (ap (λ (c : List ℕ). moves c i) (costs-read o s l))
+costs-part o s k n l a b = rw (a, b) (costs-read o s l)

@@ -3,9 +3,10 @@ ghost use mathlib.Core.Path.{_≡_};
 ghost use Prim.Native.Nat.{_*_, _/_, _%_, _≤_, _<_};
 ghost use lib.ListN.{length, getD};
 ghost use Rattle.laws.specs.Fold.{pick};
-ghost use Rattle.model.specs.Sectors.{cells, sectorOf, placeOf, costsOf};
+ghost use Rattle.model.specs.Sectors.{sectors, cells, sectorOf, placeOf, costsOf};
 ghost use Rattle.model.specs.Moves.{moves, movesTo, joined, apart};
 ghost use Rattle.model.specs.Store.{decode};
+ghost use Rattle.portal.specs.Levels.{openRows, Guarded, Spread, movesIn};
 ghost use Rattle.graph.specs.EdgeTable.{Opened};
 ghost use Rattle.graph.specs.Near.{midOf, sectorMids, nearBy, portalMoves};
 use crate::portals::is_portal;
@@ -14,6 +15,9 @@ use fields::numbers::byte;
 use fields::numbers::wide;
 use fields::sectors::cells;
 use model::Measures;
+use portal::moves::moves_at;
+use portal::moves::no_levels;
+use portal::moves::open_rows;
 use portal::moves::spread;
 
 // The index of a portal's midpoint, or 100 where the number is no portal's.
@@ -39,25 +43,35 @@ pub fn sector_mids(st: &[u8], m: Measures, s: usize, mids: &mut [u8])
     }
 }
 
-// The moves to a midpoint, or 255 where there is none.
-pub fn near_by(from: &[u8], mid: u8) -> u8
-    requires { ⌜ length (now from) ≡ 100 ⌝ }
-    ensures { λ r. ⌜ r ≡ nearBy (now (from .entry)) mid ⌝ }
+// The moves to a midpoint, by n levels, or 255 where there is none.
+pub fn near_by(levels: &[u16], n: usize, mid: u8) -> u8
+    requires { ⌜ (length (now levels) ≡ 1212) × (n ≤ 101) ⌝ }
+    ensures { λ r. ⌜ r ≡ nearBy (movesIn (now (levels .entry)) n) mid ⌝ }
 {
     if 100 <= mid {
         return 255;
     }
-    from[wide(mid)]
+    moves_at(levels, n, wide(mid))
 }
 
-// The moves from cell x to the cells of its sector.
-pub fn moves_from(st: &[u8], m: Measures, x: usize, from: &mut [u8])
-    requires { ⌜ Opened m (now st) × (x < cells m) × (length (now from) ≡ 100) ⌝ }
-    ensures { λ _. ⌜ now (from .exit) ≡ moves (costsOf (decode (now (st .entry)) .scaled) (sectorOf x)) (placeOf x) ⌝ }
+// The open cells of sector s, a row at a time.
+pub fn sector_rows(st: &[u8], m: Measures, s: usize, rows: &mut [u16])
+    requires { ⌜ Opened m (now st) × (s < sectors m) × (length (now rows) ≡ 10) ⌝ }
+    ensures { λ _. ⌜ now (rows .exit) ≡ openRows (costsOf (decode (now (st .entry)) .scaled) s) ⌝ }
+{
+    let start = 4 + cells(m) + s * 100;
+    let end = start + 100;
+    open_rows(&st[start..end], rows);
+}
+
+// The levels of the moves from cell x, by the open cells of its sector, and how many there are.
+pub fn moves_from(st: &[u8], m: Measures, x: usize, rows: &[u16], levels: &mut [u16]) -> usize
+    requires { ⌜ Opened m (now st) × (x < cells m) × (now rows ≡ openRows (costsOf (decode (now st) .scaled) (sectorOf x))) × Guarded (now levels) ⌝ }
+    ensures { λ r. ⌜ Spread (moves (costsOf (decode (now (st .entry)) .scaled) (sectorOf x)) (placeOf x)) (now (levels .exit)) r ⌝ }
 {
     let start = 4 + cells(m) + x / 100 * 100;
     let end = start + 100;
-    spread(&st[start..end], x % 100, from);
+    spread(&st[start..end], rows, x % 100, levels)
 }
 
 // The fewest moves from one cell to another, or 255 where they are not joined.
@@ -68,9 +82,11 @@ pub fn moves_to(st: &[u8], m: Measures, x: usize, y: usize) -> u8
     if x / 100 != y / 100 {
         return 255;
     }
-    let mut from: [u8; 100] = [255; 100];
-    moves_from(st, m, x, &mut from);
-    from[y % 100]
+    let mut rows: [u16; 10] = [0; 10];
+    let mut levels = no_levels();
+    sector_rows(st, m, x / 100, &mut rows);
+    let n = moves_from(st, m, x, &rows, &mut levels);
+    moves_at(&levels, n, y % 100)
 }
 
 // The moves from cell x to the portals of its sector by place, and 255 where there are none or the place has no portal.
@@ -78,13 +94,15 @@ pub fn portal_moves(st: &[u8], m: Measures, x: usize, near: &mut [u8])
     requires { ⌜ Opened m (now st) × (x < cells m) × (length (now near) ≡ 20) ⌝ }
     ensures { λ _. ⌜ now (near .exit) ≡ portalMoves (decode (now (st .entry))) x ⌝ }
 {
-    let mut from: [u8; 100] = [255; 100];
+    let mut rows: [u16; 10] = [0; 10];
+    let mut levels = no_levels();
     let mut mids: [u8; 20] = [100; 20];
-    moves_from(st, m, x, &mut from);
+    sector_rows(st, m, x / 100, &mut rows);
+    let n = moves_from(st, m, x, &rows, &mut levels);
     sector_mids(st, m, x / 100, &mut mids);
     let mut c = 0;
     while c < 20 {
-        near[c] = near_by(&from, mids[c]);
+        near[c] = near_by(&levels, n, mids[c]);
         c += 1;
     }
 }

@@ -2,3 +2,4 @@ pub mod Border
 pub mod Runs
 pub mod Marks
 pub mod Listing
+pub mod Levels

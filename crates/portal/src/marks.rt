@@ -1,9 +1,10 @@
 // The marks of the sides, from the costs.
 ghost use mathlib.Core.Path.{_≡_};
-ghost use Prim.Native.Nat.{_+_, _*_, _≤_};
+ghost use Prim.Native.Nat.{_+_, _*_, _≤_, _<_};
 ghost use Rattle.laws.specs.Fold.{bit};
 ghost use Rattle.model.specs.Costs.{openAt};
 ghost use Rattle.model.specs.Windows.{bits, markOf};
+ghost use Rattle.portal.specs.Levels.{openRow};
 ghost use Rattle.portal.specs.Marks.{openPair, openBetween};
 use crate::border::boundary_field_cells;
 use crate::border::cell_index;
@@ -58,6 +59,20 @@ fn cells_mark(costs: &[u8], s: usize, t: usize, cells: BorderCells) -> u16
     while 0 < i {
         i -= 1;
         mark = with_place(mark, open_place(costs, s, own[i], t, facing[i]));
+    }
+    mark
+}
+
+// The open cells of row y of a sector, bit x for column x, from its last cell down.
+pub fn row_mark(costs: &[u8], y: usize) -> u16
+    requires { ⌜ y < 10 ⌝ }
+    ensures { λ r. ⌜ r ≡ openRow (now (costs .entry)) y ⌝ }
+{
+    let mut mark = 0u16;
+    let mut x = 10;
+    while 0 < x {
+        x -= 1;
+        mark = with_place(mark, open_at(costs, y * 10 + x));
     }
     mark
 }

@@ -1,88 +1,120 @@
-// The fewest moves inside a sector, by breadth-first search with a queue.
+// The fewest moves inside a sector, by rows of bits: level d has the cells that at most d moves reach.
 ghost use mathlib.Core.Path.{_≡_};
-ghost use mathlib.Core.Bool.{true};
-ghost use Prim.Native.Nat.{_+_, _/_, _<_};
-ghost use lib.ListN.{length, set, replicate};
-ghost use Rattle.laws.specs.LeastCosts.{offers, relaxed};
-ghost use Rattle.laws.specs.Queue.{Queue, enqueued, queueEnd};
-ghost use Rattle.model.specs.Moves.{moveGraph, moves};
-use fields::cells::beside;
-use fields::cells::side_at;
-use fields::numbers::byte;
-use fields::numbers::wide;
+ghost use Prim.Native.Nat.{_+_, _*_, _≤_, _<_};
+ghost use lib.ListN.{length, getD};
+ghost use Rattle.model.specs.Moves.{moves};
+ghost use Rattle.portal.specs.Levels.{openRows, firstRow, grownRow, grownAt, Rowed, Grown, Guarded, Spread, movesIn, missing};
+use crate::marks::row_mark;
 
-// Arc e of cell u: the cell beside takes the offer of one move more, if that is less, and then enters the queue, which ends at t.
-fn enter(costs: &[u8], u: usize, e: usize, t: usize, dist: &mut [u8], queue: &mut [u8]) -> usize
-    requires { ⌜ (u < 100) × (u ≡ e / 4) × (length (now costs) ≡ 100) × (length (now dist) ≡ 100) × (length (now queue) ≡ 100) ⌝ }
-    requires { ⌜ (offers (moveGraph (now costs)) (now dist) e ≡ true → t < 100) ⌝ }
-    ensures dists { λ r. ⌜ now (dist .exit) ≡ relaxed (moveGraph (now (costs .entry))) (now (dist .entry)) e ⌝ }
-    ensures waits { λ r. ⌜ now (queue .exit) ≡ enqueued (moveGraph (now (costs .entry))) (now (dist .entry)) (now (queue .entry)) t e ⌝ }
-    ensures ends { λ r. ⌜ r ≡ queueEnd (moveGraph (now (costs .entry))) (now (dist .entry)) t e ⌝ }
+// The open cells of a sector, a row at a time.
+pub fn open_rows(costs: &[u8], rows: &mut [u16])
+    requires { ⌜ length (now rows) ≡ 10 ⌝ }
+    ensures { λ _. ⌜ now (rows .exit) ≡ openRows (now (costs .entry)) ⌝ }
 {
-    let v = beside(u, side_at(e % 4));
-    if 100 <= v {
-        return t;
+    let mut y = 0;
+    while y < 10 {
+        rows[y] = row_mark(costs, y);
+        y += 1;
     }
-    let near = dist[u];
-    let far = dist[v];
-    if far <= near {
-        return t;
-    }
-    if far - near == 1 {
-        return t;
-    }
-    if costs[u] == 255 {
-        return t;
-    }
-    if costs[v] == 255 {
-        return t;
-    }
-    dist[v] = near + 1;
-    queue[t] = byte(v);
-    t + 1
 }
 
-// The turn of the cell at place h of the queue: its four arcs. Returns where the queue ends then.
-fn turn(costs: &[u8], from: usize, h: usize, t: usize, dist: &mut [u8], queue: &mut [u8]) -> usize
-    requires { ⌜ (length (now costs) ≡ 100) × (h < t) × Queue (moveGraph (now costs)) from 255 (now dist) (now queue) h t ⌝ }
-    ensures { λ r. ⌜ Queue (moveGraph (now (costs .entry))) from 255 (now (dist .exit)) (now (queue .exit)) (h + 1) r ⌝ }
+// Room for levels, with no cell in any.
+pub fn no_levels() -> [u16; 1212]
+    ensures { λ r. ⌜ Guarded r ⌝ }
 {
-    let u = wide(queue[h]);
-    let mut end = t;
-    let mut e = u * 4;
-    let last = e + 4;
-    while e < last {
-        end = enter(costs, u, e, end, dist, queue);
-        e += 1;
-    }
-    end
+    [0u16; 1212]
 }
 
-// No moves to the cell itself, and none known to the others.
-fn begin(from: usize, dist: &mut [u8])
-    requires { ⌜ (from < 100) × (length (now dist) ≡ 100) ⌝ }
-    ensures { λ _. ⌜ now (dist .exit) ≡ set (replicate 100 255) from 0 ⌝ }
+// Row y of level 0, which has cell `from` alone.
+fn first_row(from: usize, y: usize) -> u16
+    ensures { λ r. ⌜ r ≡ firstRow from y ⌝ }
 {
-    let mut i = 0;
-    while i < 100 {
-        dist[i] = 255;
-        i += 1;
+    if y == from / 10 {
+        return 1 << (from % 10);
     }
-    dist[from] = 0;
+    0
 }
 
-// The fewest moves from a cell to each of the sector's cells, and 255 where none lead.
-pub fn spread(costs: &[u8], from: usize, dist: &mut [u8])
-    requires { ⌜ (length (now costs) ≡ 100) × (from < 100) × (length (now dist) ≡ 100) ⌝ }
-    ensures { λ _. ⌜ now (dist .exit) ≡ moves (now (costs .entry)) from ⌝ }
+// Level 0.
+fn begin(from: usize, levels: &mut [u16])
+    requires { ⌜ length (now levels) ≡ 1212 ⌝ }
+    ensures { λ _. ⌜ Rowed (firstRow from) 1 10 (now (levels .entry)) (now (levels .exit)) ⌝ }
 {
-    begin(from, dist);
-    let mut queue: [u8; 100] = [0; 100];
-    queue[0] = byte(from);
-    let mut h = 0;
-    let mut t = 1;
-    while h < t {
-        t = turn(costs, from, h, t, dist, &mut queue);
-        h += 1;
+    let mut y = 0;
+    while y < 10 {
+        levels[1 + y] = first_row(from, y);
+        y += 1;
     }
+}
+
+// A row of the next level: the open cells that are in this level or beside a cell of it.
+fn grown_row(cells: u16, above: u16, row: u16, below: u16) -> u16
+    ensures { λ r. ⌜ r ≡ grownRow cells above row below ⌝ }
+{
+    (row | row << 1 | row >> 1 | above | below) & cells
+}
+
+// Level d + 1, and 0 if it is level d.
+fn grow(rows: &[u16], d: usize, levels: &mut [u16]) -> u16
+    requires { ⌜ (length (now rows) ≡ 10) × (d < 100) × (length (now levels) ≡ 1212) ⌝ }
+    ensures { λ r. ⌜ Grown (now (rows .entry)) d 10 (now (levels .entry)) (now (levels .exit)) r ⌝ }
+{
+    let base = d * 12;
+    let mut change = 0u16;
+    let mut y = 0;
+    while y < 10 {
+        let row = levels[base + y + 1];
+        let next = grown_row(rows[y], levels[base + y], row, levels[base + y + 2]);
+        levels[base + 13 + y] = next;
+        change = change | (next ^ row);
+        y += 1;
+    }
+    change
+}
+
+// The levels of the moves from a cell, and how many there are: the last has every cell that moves reach.
+pub fn spread(costs: &[u8], rows: &[u16], from: usize, levels: &mut [u16]) -> usize
+    requires { ⌜ (length (now costs) ≡ 100) × (now rows ≡ openRows (now costs)) × (from < 100) × Guarded (now levels) ⌝ }
+    ensures { λ r. ⌜ Spread (moves (now (costs .entry)) from) (now (levels .exit)) r ⌝ }
+{
+    begin(from, levels);
+    if costs[from] == 255 {
+        return 1;
+    }
+    let mut d = 0;
+    while d < 100 {
+        if grow(rows, d, levels) == 0 {
+            return d + 1;
+        }
+        d += 1;
+    }
+    101
+}
+
+// How many of n levels lack cell i.
+fn lacking(levels: &[u16], n: usize, i: usize) -> u16
+    requires { ⌜ (length (now levels) ≡ 1212) × (n ≤ 101) × (i < 100) ⌝ }
+    ensures { λ r. ⌜ r ≡ missing (now (levels .entry)) n i ⌝ }
+{
+    let y = i / 10;
+    let x = i % 10;
+    let mut k = 0u16;
+    let mut d = 0;
+    while d < n {
+        k += 1 - (levels[d * 12 + y + 1] >> x) % 2;
+        d += 1;
+    }
+    k
+}
+
+// The fewest moves to cell i, by n levels, and 255 where none lead.
+pub fn moves_at(levels: &[u16], n: usize, i: usize) -> u8
+    requires { ⌜ (length (now levels) ≡ 1212) × (n ≤ 101) × (i < 100) ⌝ }
+    ensures { λ r. ⌜ r ≡ getD (movesIn (now (levels .entry)) n) i 0 ⌝ }
+{
+    let k = lacking(levels, n, i);
+    if (k as usize) < n {
+        return k as u8;
+    }
+    255
 }

@@ -1,7 +1,7 @@
 -- `edge_at` answers by the place, and by the moves to its midpoint.
 use native.Mathlib.Omega.{arith}
-use borrow.Author.Needs.{needs}
 use Rattle.graph.specs.Weights.{edge-own, edge-far, edge-near}
+use borrow.Author.Needs.{needs}
 use Rattle.graph.proofs.edges.edge_at.Statement.{statement}
 use Rattle.graph.proofs.edges.edge_at.Tie as tie
 
@@ -29,11 +29,4 @@ returns-3 c = edge-near _ _ _ _ _ (c .before .before .if1 .left) (c .before .nea
 pub edge-at-spec : {M : Type 1} → statement M
 edge-at-spec =
     tie.close
-    (tie.spec
-    returns
-    near-by-requires
-    returns-2
-    cast-result
-    mul-result
-    add-result
-    returns-3)
+    (tie.spec returns near-by-requires returns-2 cast-result mul-result add-result returns-3)

@@ -1,15 +1,28 @@
 -- `moves_from` spreads over the sector's costs, where the store has them.
-use Prim.Native.Nat.{_+_, _-_, _*_, _/_}
+use Prim.Native.Nat.{ℕ, _+_, _-_, _*_, _/_}
 use native.Mathlib.Omega.{arith}
-use Rattle.model.specs.Sectors.{sectorOf, placeOf}
+use mathlib.Core.Path.{_≡_, sym, ap, _∙_}
+use mathlib.Core.List.{List}
+use lib.ListN.{take, drop}
+use denote.Ref.{now}
+use Rattle.model.specs.Moves.{moves}
+use Rattle.model.specs.Sectors.{sectorOf, placeOf, costsOf}
+use Rattle.model.specs.Store.{decode}
+use Rattle.portal.specs.Levels.{openRows}
 use Rattle.graph.specs.Reading.{few-of}
-use Rattle.graph.specs.Weights.{moves-read}
+use Rattle.graph.specs.Weights.{costs-part}
 use borrow.Author.Needs.{needs}
 use Rattle.graph.proofs.near.moves_from.Statement.{statement}
 use Rattle.graph.proofs.near.moves_from.Tie as tie
 
 abbrev S : tie.After-cells → tie.Start
-S c = c .before .before .before
+S c = c .before .before .before .before
+
+abbrev from : tie.After-cells → ℕ
+from c = 4 + c .cells .result + S c .args .x / 100 * 100
+
+part : (c : tie.After-cells) → take (from c + 100 - from c) (drop (from c) (now (S c .args .st))) ≡ costsOf (decode (now (S c .args .st)) .scaled) (sectorOf (S c .args .x))
+part c = costs-part (S c .pre .0) (sectorOf (S c .args .x)) (from c + 100 - from c) (c .cells .result) (omega (arith, S c .pre)) (omega arith) (c .cells .ensures)
 
 cells-requires : tie.Need-cells-requires
 cells-requires c κs = search needs
@@ -36,18 +49,16 @@ part-spread-end : tie.Need-part-spread-end
 part-spread-end c = omega (arith, c .cells .ensures, few-of (S c .pre .0) .room, S c .pre)
 
 spread-requires : tie.Need-spread-requires
-spread-requires c κs = search needs
+spread-requires c κs = let at = c .before .before in (search needs, S at .pre .2 ∙ ap openRows (sym (part at)), omega arith, S at .pre .3)
 
 same-length : tie.Need-same-length
 same-length c = search needs
 
 returns : tie.Need-returns
 returns c =
-    let call = c .before .before in
-    let at = call .before .before .before in
-    let start = S at in
-    let from = 4 + at .cells .result + start .args .x / 100 * 100 in
-    moves-read (start .pre .0) (sectorOf (start .args .x)) (from + 100 - from) (at .cells .result) (placeOf (start .args .x)) (omega (arith, start .pre)) (call .spread .ensures) (omega arith) (at .cells .ensures)
+    let at = c .before .before .before .before .before in
+    let spread = c .before .before .spread .ensures in
+    record { guarded = spread .guarded; few = spread .few; found = spread .found ∙ ap (λ (k : List ℕ). moves k (placeOf (S at .args .x))) (part at) }
 
 pub moves-from-spec : {M : Type 1} → statement M
 moves-from-spec =

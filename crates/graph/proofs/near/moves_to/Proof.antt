@@ -1,4 +1,5 @@
 -- `moves_to` reads the moves to a cell of the same sector.
+use mathlib.Core.Path.{_∙_}
 use Rattle.graph.specs.Near.{other-sector, same-sector}
 use borrow.Author.Needs.{needs}
 use Rattle.graph.proofs.near.moves_to.Statement.{statement}
@@ -7,19 +8,44 @@ use Rattle.graph.proofs.near.moves_to.Tie as tie
 returns : tie.Need-returns
 returns c = other-sector _ _ _ (c .if1 .taken)
 
+no-levels-requires : tie.Need-no-levels-requires
+no-levels-requires c κs = search needs
+
+slice-aggregate-sector-rows : tie.Need-slice-aggregate-sector-rows
+slice-aggregate-sector-rows c = search needs
+
+sector-rows-requires : tie.Need-sector-rows-requires
+sector-rows-requires c κs = search needs
+
 slice-aggregate-moves-from : tie.Need-slice-aggregate-moves-from
 slice-aggregate-moves-from c = search needs
+
+slice-aggregate-moves-from-2 : tie.Need-slice-aggregate-moves-from-2
+slice-aggregate-moves-from-2 c = search needs
 
 moves-from-requires : tie.Need-moves-from-requires
 moves-from-requires c κs = search needs
 
-array-read-result : tie.Need-array-read-result
-array-read-result c = search needs
+slice-aggregate-moves-at : tie.Need-slice-aggregate-moves-at
+slice-aggregate-moves-at c = search needs
+
+moves-at-requires : tie.Need-moves-at-requires
+moves-at-requires c κs = search needs
 
 returns-2 : tie.Need-returns-2
-returns-2 c = same-sector _ _ _ (c .before .before .before .if1 .left) (c .before .moves-from .ensures)
+returns-2 c = c .moves-at .ensures ∙ same-sector _ _ _ (c .before .before .before .before .before .before .before .before .before .before .if1 .left) (c .before .before .before .moves-from .ensures .found)
 
 pub moves-to-spec : {M : Type 1} → statement M
 moves-to-spec =
     tie.close
-    (tie.spec returns slice-aggregate-moves-from moves-from-requires array-read-result returns-2)
+    (tie.spec
+    returns
+    no-levels-requires
+    slice-aggregate-sector-rows
+    sector-rows-requires
+    slice-aggregate-moves-from
+    slice-aggregate-moves-from-2
+    moves-from-requires
+    slice-aggregate-moves-at
+    moves-at-requires
+    returns-2)

@@ -1,4 +1,5 @@
 -- `near_by` reads the moves at a midpoint.
+use mathlib.Core.Path.{_∙_}
 use Rattle.graph.specs.Near.{near-none, near-some}
 use borrow.Author.Needs.{needs}
 use Rattle.graph.proofs.near.near_by.Statement.{statement}
@@ -10,11 +11,11 @@ returns c = near-none _ _ (c .if1 .taken)
 wide-requires : tie.Need-wide-requires
 wide-requires c κs = search needs
 
-shared-slice-read-result : tie.Need-shared-slice-read-result
-shared-slice-read-result c = search needs
+moves-at-requires : tie.Need-moves-at-requires
+moves-at-requires c κs = search needs
 
 returns-2 : tie.Need-returns-2
-returns-2 c = near-some _ _ (c .before .before .if1 .left) (c .before .wide .ensures .0)
+returns-2 c = c .moves-at .ensures ∙ near-some _ _ (c .before .before .if1 .left) (c .before .wide .ensures .0)
 
 pub near-by-spec : {M : Type 1} → statement M
-near-by-spec = tie.close (tie.spec returns wide-requires shared-slice-read-result returns-2)
+near-by-spec = tie.close (tie.spec returns wide-requires moves-at-requires returns-2)

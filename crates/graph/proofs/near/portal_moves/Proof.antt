@@ -4,6 +4,7 @@ use native.Mathlib.Omega.{arith}
 use mathlib.Core.Path.{refl}
 use lib.ListN.{getD}
 use Rattle.laws.specs.Table.{Tabled, tabling}
+use Rattle.portal.specs.Levels.{movesIn}
 use Rattle.graph.specs.Reading.{few-of}
 use Rattle.graph.specs.Near.{nearBy, near-list}
 use borrow.Author.Needs.{needs}
@@ -11,13 +12,25 @@ use Rattle.graph.proofs.near.portal_moves.Statement.{statement}
 use Rattle.graph.proofs.near.portal_moves.Tie as tie
 
 abbrev Inv-loop : tie.InvT-loop
-Inv-loop st x near₀ from mids c₀ near c = Tabled (λ k. nearBy from (getD mids k 0)) 20 c near
+Inv-loop st x near₀ levels mids n c₀ near c = Tabled (λ k. nearBy (movesIn levels n) (getD mids k 0)) 20 c near
 
 abbrev μ-loop : tie.MeasureT-loop
-μ-loop st x near₀ from mids c₀ near c = 20 - c
+μ-loop st x near₀ levels mids n c₀ near c = 20 - c
+
+no-levels-requires : tie.Need-no-levels-requires Inv-loop μ-loop
+no-levels-requires c κs = search needs
+
+slice-aggregate-sector-rows : tie.Need-slice-aggregate-sector-rows Inv-loop μ-loop
+slice-aggregate-sector-rows c = search needs
+
+sector-rows-requires : tie.Need-sector-rows-requires Inv-loop μ-loop
+sector-rows-requires c κs = search needs
 
 slice-aggregate-moves-from : tie.Need-slice-aggregate-moves-from Inv-loop μ-loop
 slice-aggregate-moves-from c = search needs
+
+slice-aggregate-moves-from-2 : tie.Need-slice-aggregate-moves-from-2 Inv-loop μ-loop
+slice-aggregate-moves-from-2 c = search needs
 
 moves-from-requires : tie.Need-moves-from-requires Inv-loop μ-loop
 moves-from-requires c κs = search needs
@@ -26,7 +39,7 @@ slice-aggregate-sector-mids : tie.Need-slice-aggregate-sector-mids Inv-loop μ-l
 slice-aggregate-sector-mids c = search needs
 
 sector-mids-requires : tie.Need-sector-mids-requires Inv-loop μ-loop
-sector-mids-requires c κs = let start = c .before .before .before .before .before .before in (start .pre .0, omega (arith, few-of (start .pre .0) .few, start .pre .1), refl)
+sector-mids-requires c κs = let start = c .before .before .before .before .before .before .before .before .before .before .before in (start .pre .0, omega (arith, few-of (start .pre .0) .few, start .pre .1), refl)
 
 loop-holds : tie.Need-loop-holds Inv-loop μ-loop
 loop-holds c = search (needs, tabling)
@@ -38,7 +51,7 @@ array-read-near-by : tie.Need-array-read-near-by Inv-loop μ-loop
 array-read-near-by c = search needs
 
 near-by-requires : tie.Need-near-by-requires Inv-loop μ-loop
-near-by-requires c κs = search needs
+near-by-requires c κs = let spread = c .before .before .before .before .before .before .before .moves-from .ensures in (spread .guarded .long, spread .few)
 
 slice-write-near : tie.Need-slice-write-near Inv-loop μ-loop
 slice-write-near c = search needs
@@ -56,7 +69,7 @@ same-length : tie.Need-same-length Inv-loop μ-loop
 same-length c = search needs
 
 returns : tie.Need-returns Inv-loop μ-loop
-returns c = near-list _ _ (c .before .before .before .before .before .before .moves-from .ensures) (c .before .before .before .sector-mids .ensures) (c .before .loop .inv) (c .loop-test .left)
+returns c = near-list _ _ (c .before .before .before .before .before .before .moves-from .ensures .found) (c .before .before .before .sector-mids .ensures) (c .before .loop .inv) (c .loop-test .left)
 
 pub portal-moves-spec : {M : Type 1} → statement M
 portal-moves-spec =
@@ -64,7 +77,11 @@ portal-moves-spec =
     (tie.spec
     Inv-loop
     μ-loop
+    no-levels-requires
+    slice-aggregate-sector-rows
+    sector-rows-requires
     slice-aggregate-moves-from
+    slice-aggregate-moves-from-2
     moves-from-requires
     slice-aggregate-sector-mids
     sector-mids-requires

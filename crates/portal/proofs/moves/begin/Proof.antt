@@ -1,44 +1,63 @@
--- `begin` fills the list, then sets its own cell. The loop is a fold of stores.
-use mathlib.Core.Path.{refl, ap, _∙_}
-use mathlib.Core.List.{List}
-use Prim.Native.Nat.{ℕ, _-_}
+-- `begin` fills the rows of level 0.
+use Prim.Native.Nat.{_-_}
 use native.Mathlib.Omega.{arith}
-use lib.ListN.{set, length-set}
-use denote.Ref.{now}
-use Rattle.laws.specs.Fold.{Ran, ran-none, ran-turn, ran-end}
-use Rattle.laws.specs.Fill.{fill, run-fill}
+use Rattle.portal.specs.Levels.{firstRow, Rowed}
+use Rattle.portal.proofs.Levels.{rowed-none, rowed-more, rowed-all}
+use borrow.Author.Needs.{needs}
 use Rattle.portal.proofs.moves.begin.Statement.{statement}
 use Rattle.portal.proofs.moves.begin.Tie as tie
 
+-- `begin` fills the rows of level 0.
+
 abbrev Inv-loop : tie.InvT-loop
-Inv-loop from dist₀ i₀ dist i = Ran (fill 255) 100 i dist₀ dist
+Inv-loop from levels₀ y₀ levels y = Rowed (firstRow from) 1 y levels₀ levels
 
 abbrev μ-loop : tie.MeasureT-loop
-μ-loop from dist₀ i₀ dist i = 100 - i
+μ-loop from levels₀ y₀ levels y = 10 - y
 
 loop-holds : tie.Need-loop-holds Inv-loop μ-loop
-loop-holds c = ran-none _ _ _
+loop-holds c = rowed-none _ _ _
 
-slice-write-dist : tie.Need-slice-write-dist Inv-loop μ-loop
-slice-write-dist c = omega (arith, c .before .loop .inv .same)
+first-row-requires : tie.Need-first-row-requires Inv-loop μ-loop
+first-row-requires c κs = search needs
 
-add-i : tie.Need-add-i Inv-loop μ-loop
-add-i c = omega arith
+add-levels : tie.Need-add-levels Inv-loop μ-loop
+add-levels c = search needs
+
+mul-levels : tie.Need-mul-levels Inv-loop μ-loop
+mul-levels c = search needs
+
+slice-write-levels : tie.Need-slice-write-levels Inv-loop μ-loop
+slice-write-levels c = omega (arith, c .before .before .loop .inv .long, c .before .before .before .before .pre)
+
+add-y : tie.Need-add-y Inv-loop μ-loop
+add-y c = search needs
 
 loop-less : tie.Need-loop-less Inv-loop μ-loop
-loop-less c = omega arith
+loop-less c = search needs
 
 loop-again : tie.Need-loop-again Inv-loop μ-loop
-loop-again c = ran-turn (c .before .loop .inv) (c .loop-test .taken) refl (length-set (c .before .loop .dist) (c .before .loop .i) 255)
-
-slice-write-dist-2 : tie.Need-slice-write-dist-2 Inv-loop μ-loop
-slice-write-dist-2 c = omega (arith, c .before .loop .inv .same)
+loop-again c = rowed-more (c .before .before .loop .inv) (c .before .loop-test .taken) (omega (arith, c .before .before .before .before .pre)) (c .first-row .ensures)
 
 same-length : tie.Need-same-length Inv-loop μ-loop
-same-length c = simp length-set (c .before .loop .inv .same)
+same-length c = c .before .loop .inv .long
 
 returns : tie.Need-returns Inv-loop μ-loop
-returns c = ap (λ (l : List ℕ). set l (c .before .before .args .from) 0) (ran-end (c .before .loop .inv) (c .loop-test .left) ∙ run-fill 255 100 (now (c .before .before .args .dist)) (omega arith))
+returns c = rowed-all (c .before .loop .inv) (c .loop-test .left)
 
 pub begin-spec : {M : Type 1} → statement M
-begin-spec = tie.close (tie.spec Inv-loop μ-loop loop-holds slice-write-dist add-i loop-less loop-again slice-write-dist-2 same-length returns)
+begin-spec =
+    tie.close
+    (tie.spec
+    Inv-loop
+    μ-loop
+    loop-holds
+    first-row-requires
+    add-levels
+    mul-levels
+    slice-write-levels
+    add-y
+    loop-less
+    loop-again
+    same-length
+    returns)

@@ -1,63 +1,71 @@
--- `spread` gives the fewest moves. The loop's invariant is `Queue`; where the queue is empty the list is certified, and so is the definition's.
-use mathlib.Core.Path.{_∙_}
-use Prim.Native.Nat.{ℕ, _-_, _<_}
+-- `spread` gives the levels of the moves. The loop's invariant: the levels up to d have the cells with at most as many moves; it is left where a level is the one before, or where there is a level for each count.
+use Prim.Native.Nat.{ℕ, _+_, _-_, _≤_}
 use native.Mathlib.Omega.{arith}
-use lib.ListN.{replicate, length-replicate}
-use borrow.Author.Needs.{needs}
-use Rattle.laws.specs.Search.{count-le}
-use Rattle.laws.specs.Graph.{under, settled-unique}
-use Rattle.laws.specs.LeastCosts.{outset}
-use Rattle.laws.specs.Queue.{Queue, queue-none, queue-over}
-use Rattle.model.specs.Moves.{moveGraph}
-use Rattle.model.specs.MovesFewest.{move-sound, moves-settled}
+use mathlib.Core.Path.{_≡_, refl, sym, ap, _∙_}
+use mathlib.Core.List.{List}
+use lib.ListN.{length}
+use denote.Ref.{now}
+use Rattle.laws.specs.Table.{length-tabulate}
+use Rattle.portal.proofs.Steps.{far}
+use Rattle.portal.specs.Levels.{openRow, openRows}
+use Rattle.portal.proofs.Levels.{Levels, levels-first, spread-blocked, spread-last, spread-more, spread-still}
 use Rattle.portal.proofs.moves.spread.Statement.{statement}
 use Rattle.portal.proofs.moves.spread.Tie as tie
 
 abbrev Inv-loop : tie.InvT-loop
-Inv-loop costs from dist₀ queue₀ h₀ t₀ dist queue h t = Queue (moveGraph costs) from 255 dist queue h t
+Inv-loop costs rows from levels₀ d₀ levels d = (d ≤ 100) × Levels (far costs from) levels (d + 1)
 
 abbrev μ-loop : tie.MeasureT-loop
-μ-loop costs from dist₀ queue₀ h₀ t₀ dist queue h t = 100 - h
+μ-loop costs rows from levels₀ d₀ levels d = 100 - d
 
-abbrev S : tie.After-byte Inv-loop μ-loop → tie.Start Inv-loop μ-loop
-S n = n .before .before .before .before .before .before .before
+rows-long : (costs : List ℕ) {rows : List ℕ} → rows ≡ openRows costs → length rows ≡ 10
+unfolding openRows
+rows-long costs e = ap length e ∙ length-tabulate (openRow costs) 10 0
 
--- h is below 100 in a turn
-in-h : (m : tie.In-loop Inv-loop μ-loop) → m .before .loop .h < 100
-in-h m = omega (arith, m .loop-test .taken, m .before .loop .inv .all .counted, count-le (under (m .before .loop .dist) 255) 100)
+at-last : {f : ℕ → ℕ} {l : List ℕ} {d : ℕ} → Levels f l (d + 1) → d ≡ 100 → Levels f l 101
+at-last {f} {l} all e = rw e at all
 
 begin-requires : tie.Need-begin-requires Inv-loop μ-loop
-begin-requires c κs = omega arith
+begin-requires c κs = c .before .before .before .before .pre .3 .long
 
-byte-requires : tie.Need-byte-requires Inv-loop μ-loop
-byte-requires c κs = omega (arith, c .before .before .before .before .before .before .pre)
-
-array-write-queue : tie.Need-array-write-queue Inv-loop μ-loop
-array-write-queue c = search needs
-
-loop-holds : tie.Need-loop-holds Inv-loop μ-loop
-loop-holds c = rw (c .before .before .before .begin .ensures, c .byte .ensures) (unfold outset in queue-none (move-sound _) (replicate 100 0) (length-replicate {A = ℕ} 100 0) (omega (arith, S c .pre)) (omega arith))
-
-slice-aggregate-turn : tie.Need-slice-aggregate-turn Inv-loop μ-loop
-slice-aggregate-turn c = search needs
-
-turn-requires : tie.Need-turn-requires Inv-loop μ-loop
-turn-requires c κs = (S (c .before .before .before .before) .pre .0, c .before .before .loop-test .taken, c .before .before .before .loop .inv)
-
-add-h : tie.Need-add-h Inv-loop μ-loop
-add-h c = omega (arith, in-h (c .before .before .before .before .before .before))
-
-loop-less : tie.Need-loop-less Inv-loop μ-loop
-loop-less c = omega (arith, in-h (c .before .before .before .before .before .before))
-
-loop-again : tie.Need-loop-again Inv-loop μ-loop
-loop-again c = c .before .before .before .turn .ensures
+shared-slice-read-if1 : tie.Need-shared-slice-read-if1 Inv-loop μ-loop
+shared-slice-read-if1 c = omega (arith, c .before .before .before .before .before .before .before .before .pre)
 
 same-length : tie.Need-same-length Inv-loop μ-loop
-same-length c = c .before .loop .inv .all .rough .sized ∙ omega (arith, S (c .before .before) .pre)
+same-length c = c .before .before .before .before .begin .ensures .long
 
 returns : tie.Need-returns Inv-loop μ-loop
-returns c = settled-unique (queue-over (move-sound _) (c .before .loop .inv) (c .loop-test .left)) (moves-settled _ _ (omega (arith, S (c .before .before) .pre)))
+returns c = let start = c .before .before .before .before .before .before .before .before .before in spread-blocked _ _ (start .pre .0) (start .pre .2) (c .if1 .taken) (levels-first _ _ (start .pre .2) (c .before .before .before .before .begin .ensures) (start .pre .3))
+
+loop-holds : tie.Need-loop-holds Inv-loop μ-loop
+loop-holds c = let start = c .before .before .before .before .before .before .before .before .before in (omega arith, levels-first _ _ (start .pre .2) (c .before .before .before .before .begin .ensures) (start .pre .3))
+
+grow-requires : tie.Need-grow-requires Inv-loop μ-loop
+grow-requires c κs = let start = c .before .before .before .before .before .before .before .before .before .before .before .before in (rows-long _ (start .pre .1), c .before .loop-test .taken, c .before .before .loop .inv .1 .guarded .long)
+
+add-result : tie.Need-add-result Inv-loop μ-loop
+add-result c = omega arith
+
+same-length-2 : tie.Need-same-length-2 Inv-loop μ-loop
+same-length-2 c = c .before .before .before .grow .ensures .rowed .long ∙ c .before .before .before .before .before .before .loop .inv .1 .guarded .long ∙ sym (c .before .before .before .before .before .before .before .before .before .before .before .before .before .before .before .before .pre .3 .long)
+
+returns-2 : tie.Need-returns-2 Inv-loop μ-loop
+returns-2 c = let at = c .before .before .before .before .before .before in let start = c .before .before .before .before .before .before .before .before .before .before .before .before .before .before .before .before in spread-still _ _ (start .pre .0) (start .pre .2) (at .before .if1 .left) (start .pre .1) (c .before .before .before .before .before .loop-test .taken) (c .before .before .before .grow .ensures) (at .loop .inv .1) (c .if2 .taken)
+
+add-d : tie.Need-add-d Inv-loop μ-loop
+add-d c = omega arith
+
+loop-less : tie.Need-loop-less Inv-loop μ-loop
+loop-less c = omega arith
+
+loop-again : tie.Need-loop-again Inv-loop μ-loop
+loop-again c = let at = c .before .before .before .before .before .before in let start = c .before .before .before .before .before .before .before .before .before .before .before .before .before .before .before .before in (omega (arith, c .before .before .before .before .before .loop-test .taken), spread-more _ _ (start .pre .0) (start .pre .2) (at .before .if1 .left) (start .pre .1) (c .before .before .before .before .before .loop-test .taken) (c .before .before .before .grow .ensures) (at .loop .inv .1))
+
+same-length-3 : tie.Need-same-length-3 Inv-loop μ-loop
+same-length-3 c = c .before .loop .inv .1 .guarded .long ∙ sym (c .before .before .before .before .before .before .before .before .before .before .before .pre .3 .long)
+
+returns-3 : tie.Need-returns-3 Inv-loop μ-loop
+returns-3 c = let start = c .before .before .before .before .before .before .before .before .before .before .before in spread-last _ _ (start .pre .0) (start .pre .2) (at-last (c .before .loop .inv .1) (omega (arith, c .before .loop .inv .0, c .loop-test .left)))
 
 pub spread-spec : {M : Type 1} → statement M
 spread-spec =
@@ -66,13 +74,16 @@ spread-spec =
     Inv-loop
     μ-loop
     begin-requires
-    byte-requires
-    array-write-queue
+    shared-slice-read-if1
+    same-length
+    returns
     loop-holds
-    slice-aggregate-turn
-    turn-requires
-    add-h
+    grow-requires
+    add-result
+    same-length-2
+    returns-2
+    add-d
     loop-less
     loop-again
-    same-length
-    returns)
+    same-length-3
+    returns-3)
