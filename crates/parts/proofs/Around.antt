@@ -20,36 +20,10 @@ use Rattle.model.specs.Sectors.{sectors, hasBeyond}
 use Rattle.model.specs.Halls.{Hall}
 use Rattle.model.specs.Change.{nearby, isThere, isNearby, remarked, exceedsAt, exceeds}
 use Rattle.model.specs.Nearby.{atNearby, nearby-lt}
+use Rattle.store.specs.Hits.{Hit, seek, any-hit, same-test}
 use Rattle.parts.specs.Each.{each}
 use Rattle.parts.specs.Marks.{fresh}
 use Rattle.parts.specs.Around.{sideFresh, sectorFresh, sectorExceeds, placeExceeds}
-
--- ---- one that passes
-record Hit (p : ℕ → Bool) (n : ℕ) : Type 0 where
-  at : ℕ
-  below : at < n
-  passes : p at ≡ true
-
--- one below n passes, or none does
-seek : (p : ℕ → Bool) (n : ℕ) → Hit p n ⊎ ((j : ℕ) → j < n → p j ≡ false)
-seek p zero = inr (λ j l. absurd (not-suc-le-zero l))
-seek p (suc n) = go (p n) refl (seek p n)
-  where
-    go : (b : Bool) → p n ≡ b → Hit p n ⊎ ((j : ℕ) → j < n → p j ≡ false) → Hit p (suc n) ⊎ ((j : ℕ) → j < suc n → p j ≡ false)
-    go true e r = inl (record { at = n; below = omega arith; passes = e })
-    go false e (inl h) = inl (record { at = h .at; below = omega (arith, h .below); passes = h .passes })
-    go false e (inr none) = inr (λ j l. last j l (ℕ-discrete j n))
-      where
-        last : (j : ℕ) → j < suc n → Dec (j ≡ n) → p j ≡ false
-        last j l (yes z) = ap p z ∙ e
-        last j l (no z) = none j (omega arith)
-
-any-hit : (p : ℕ → Bool) (n : ℕ) → any p n ≡ true → Hit p n
-any-hit p n e = go (seek p n)
-  where
-    go : Hit p n ⊎ ((j : ℕ) → j < n → p j ≡ false) → Hit p n
-    go (inl h) = h
-    go (inr none) = absurd (false-ne-true (any-no p n n (omega arith) none ∙ e))
 
 -- ---- what steps leave at one entry of a list: v where one of them is at it, and else what stood there
 module _ (step : ℕ → List ℕ → List ℕ) (p : ℕ → Bool) (k v : ℕ) (long : (i : ℕ) (ys : List ℕ) → length (step i ys) ≡ length ys)
@@ -148,12 +122,6 @@ module _ (m : Measures) (costs : List ℕ) where
 pub place-near : (m : Measures) (t k : ℕ) → k < 9 → isThere m t k ≡ true → isNearby m t (nearby m t k) ≡ true
 unfolding isNearby
 place-near m t k l e = any-has (λ j. isThere m t j && eqb (nearby m t j) (nearby m t k)) 9 k l (rw e (eq-eqb (nearby m t k) (nearby m t k) refl))
-
--- two tests of which each passes where the other does
-same-test : (a b : Bool) → (a ≡ true → b ≡ true) → (b ≡ true → a ≡ true) → a ≡ b
-same-test true b there back = sym (there refl)
-same-test false true there back = back refl
-same-test false false there back = refl
 
 module _ (h : Hall) (t : ℕ) where
   -- a side of sector s is one of all sides
