@@ -1,4 +1,4 @@
--- Facts for the proofs of changing: marks afresh, sides that exceed, the hall after a change, and what is answered and left in the store.
+-- Facts for the proofs of changing: sides that exceed, the hall after a change, and what is answered and left in the store.
 use mathlib.Core.Path.{_≡_, refl, sym, ap, _∙_}
 use mathlib.Core.Bool.{Bool, true, false, _&&_, not}
 use mathlib.Core.List.{List, [], _∷_}
@@ -8,7 +8,6 @@ use native.Mathlib.Omega.{arith}
 use native.Mathlib.Decide.{decLt}
 use lib.Dec.{ltb}
 use lib.ListN.{length, getD, set, length-set}
-use lib.Seq.{set-getD}
 use Rattle.laws.specs.Fold.{pick}
 use Rattle.laws.specs.Ladder.{refuse}
 use Rattle.laws.specs.Region.{region}
@@ -24,19 +23,8 @@ use Rattle.model.specs.Store.{measuresAt, marksIn, hallIn, decode, written}
 use Rattle.model.specs.Change.{isNearby, rescaled, remarked, changed, exceedsAt, exceeds}
 use Rattle.model.specs.Calls.{ifAccepted}
 use Rattle.sector_cost.specs.Costs.{Costs}
-use Rattle.parts.specs.Each.{each}
-use Rattle.parts.specs.Marks.{Floor, fresh, nearbyFresh, Small}
+use Rattle.parts.specs.Marks.{Floor, Small}
 use Rattle.parts.specs.Parts.{hallOf, Changeable, alteredNumber, alteredInto}
-
--- ---- marks afresh
-module _ (m : Measures) (costs : List ℕ) (t k : ℕ) (marks : List ℕ) {near : Bool} (is : near ≡ isNearby m t (k / 4)) where
-  pub side-near : {out : List ℕ} → near ≡ true → out ≡ each (fresh m costs) k marks → out ≡ each (nearbyFresh m costs t) k marks
-  unfolding each
-  side-near h e = e ∙ rw (← is, h)
-
-  pub side-far : near ≡ false → marks ≡ each (nearbyFresh m costs t) k marks
-  unfolding each
-  side-far h = rw (← is, h) (sym (set-getD marks k 0))
 
 -- ---- sides that exceed
 pub none-past : (l : List ℕ) (k : ℕ) → length l ≤ k → 0 ≡ getD l k 0

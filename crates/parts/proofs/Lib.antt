@@ -1,3 +1,4 @@
 pub mod Laying
 pub mod Marking
 pub mod Altering
+pub mod Around

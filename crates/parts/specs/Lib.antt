@@ -1,3 +1,4 @@
+pub mod Around
 pub mod Each
 pub mod Marks
 pub mod Parts

@@ -2,13 +2,11 @@
 use Prim.Native.Nat.{ℕ, _+_, _*_, _/_, _%_, _≤_}
 use mathlib.Core.List.{List}
 use lib.ListN.{getD}
-use Rattle.laws.specs.Fold.{pick}
 use Rattle.laws.specs.Table.{tabulate}
 use Rattle.model.specs.declared.Measures.{Measures}
 use Rattle.model.specs.Cells.{sideAt}
 use Rattle.model.specs.Sectors.{sectors, cells}
 use Rattle.model.specs.Windows.{markOf}
-use Rattle.model.specs.Change.{isNearby}
 use Rattle.model.specs.Store.{u16At}
 use Rattle.store.specs.Checks.{Sized}
 
@@ -26,10 +24,6 @@ kept m st k old = u16At st (4 + 2 * cells m + 2 * k)
 
 abbrev pub fresh : Measures → List ℕ → ℕ → ℕ → ℕ
 fresh m costs k old = markOf m costs (k / 4) (sideAt (k % 4))
-
--- what the costs give where the mark's sector is one of those around sector t, and else what stood there
-abbrev pub nearbyFresh : Measures → List ℕ → ℕ → ℕ → ℕ → ℕ
-nearbyFresh m costs t k old = pick (isNearby m t (k / 4)) (fresh m costs k old) old
 
 -- marks of ten bits
 pub record Small (marks : List ℕ) : Type 0 where

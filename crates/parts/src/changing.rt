@@ -1,16 +1,17 @@
 // What change does to a store that passed the check, at a cell of its floor.
 ghost use mathlib.Core.Path.{_≡_};
-ghost use mathlib.Core.Bool.{_&&_, not};
+ghost use mathlib.Core.Bool.{true, _&&_, not};
 ghost use mathlib.Core.List.{[]};
-ghost use Prim.Native.Nat.{_+_, _*_, _/_, _%_, _≤_, _<_};
+ghost use Prim.Native.Nat.{_+_, _*_, _≤_, _<_};
 ghost use lib.ListN.{length, getD};
 ghost use Rattle.model.specs.Cells.{sideAt, sideNumber};
 ghost use Rattle.model.specs.Sectors.{sectors, cells, beyond, hasBeyond};
 ghost use Rattle.model.specs.Windows.{windowCount};
 ghost use Rattle.model.specs.Store.{decode};
 ghost use Rattle.model.specs.Change.{isNearby, remarked, changed, exceedsAt, exceeds};
-ghost use Rattle.parts.specs.Each.{each};
-ghost use Rattle.parts.specs.Marks.{Floor, nearbyFresh, Small};
+ghost use Rattle.model.specs.Nearby.{atNearby};
+ghost use Rattle.parts.specs.Around.{sectorFresh, sectorExceeds, placeExceeds};
+ghost use Rattle.parts.specs.Marks.{Floor, Small};
 ghost use Rattle.parts.specs.Parts.{hallOf, Changeable, alteredNumber, alteredInto};
 use crate::layout::cost_room;
 use crate::layout::mark_room;
@@ -29,15 +30,29 @@ use model::Measures;
 use model::Side;
 use portal::runs::window_count;
 use sector_cost::nearby::is_nearby;
+use sector_cost::nearby::is_there;
+use sector_cost::nearby::nearby;
 use sector_cost::rescale;
 
-// Marks side k afresh where its sector is one of those around sector t.
-fn remark_side(m: Measures, costs: &[u8], t: usize, k: usize, marks: &mut [u16])
-    requires { ⌜ Floor m × (t < sectors m) × (k < sectors m * 4) × (length (now marks) ≡ sectors m * 4) ⌝ }
-    ensures { λ _. ⌜ now (marks .exit) ≡ each (nearbyFresh m (now (costs .entry)) t) k (now (marks .entry)) ⌝ }
+// Marks the four sides of sector s afresh.
+fn remark_sector(m: Measures, costs: &[u8], s: usize, marks: &mut [u16])
+    requires { ⌜ Floor m × (s < sectors m) × (length (now marks) ≡ sectors m * 4) ⌝ }
+    ensures { λ _. ⌜ now (marks .exit) ≡ sectorFresh m (now (costs .entry)) s (now (marks .entry)) ⌝ }
 {
-    if is_nearby(m, t, k / 4) {
-        mark_side(m, costs, k, marks);
+    let mut i = 0;
+    while i < 4 {
+        mark_side(m, costs, s * 4 + i, marks);
+        i += 1;
+    }
+}
+
+// Marks place k of the sectors around t afresh, if there is one.
+fn remark_place(m: Measures, costs: &[u8], t: usize, k: usize, marks: &mut [u16])
+    requires { ⌜ Floor m × (t < sectors m) × (length (now marks) ≡ sectors m * 4) ⌝ }
+    ensures { λ _. ⌜ now (marks .exit) ≡ atNearby m t (sectorFresh m (now (costs .entry))) k (now (marks .entry)) ⌝ }
+{
+    if is_there(m, t, k) {
+        remark_sector(m, costs, nearby(m, t, k), marks);
     }
 }
 
@@ -46,10 +61,9 @@ fn remark(m: Measures, costs: &[u8], t: usize, marks: &mut [u16])
     requires { ⌜ Floor m × (t < sectors m) × (length (now marks) ≡ sectors m * 4) ⌝ }
     ensures { λ _. ⌜ now (marks .exit) ≡ remarked m (now (costs .entry)) t (now (marks .entry)) ⌝ }
 {
-    let n = marks.len();
     let mut k = 0;
-    while k < n {
-        remark_side(m, costs, t, k, marks);
+    while k < 9 {
+        remark_place(m, costs, t, k, marks);
         k += 1;
     }
 }
@@ -72,41 +86,63 @@ fn windows_on(marks: &[u16], s: usize, side: Side) -> usize
     window_count(mark_or_none(marks, s * 4 + side_number(side)))
 }
 
-// Whether a side lies between a sector marked afresh and one that is not.
+// Whether a side of sector s, one of those marked afresh, leads to a sector that is not.
 fn is_edge(m: Measures, t: usize, s: usize, side: Side) -> bool
-    requires { ⌜ Floor m × (t < sectors m) × (s < sectors m) ⌝ }
+    requires { ⌜ Floor m × (t < sectors m) × (s < sectors m) × (isNearby m t s ≡ true) ⌝ }
     ensures { λ r. ⌜ r ≡ hasBeyond m s side && isNearby m t s && not (isNearby m t (beyond m s side)) ⌝ }
 {
     if has_beyond(m, s, side) {
-        if is_nearby(m, t, s) {
-            return !is_nearby(m, t, beyond(m, s, side));
-        }
+        return !is_nearby(m, t, beyond(m, s, side));
     }
     false
 }
 
-// Whether it has more windows on side k than the facing side of that other sector.
-fn exceeds_at(m: Measures, marks: &[u16], t: usize, k: usize) -> bool
-    requires { ⌜ Floor m × Small (now marks) × (t < sectors m) × (k < sectors m * 4) ⌝ }
-    ensures { λ r. ⌜ r ≡ exceedsAt (hallOf m [] [] (now (marks .entry))) t (k / 4) (sideAt (k % 4)) ⌝ }
+// Whether it has more windows on side i than the facing side of that other sector.
+fn exceeds_at(m: Measures, marks: &[u16], t: usize, s: usize, i: usize) -> bool
+    requires { ⌜ Floor m × Small (now marks) × (t < sectors m) × (s < sectors m) × (isNearby m t s ≡ true) ⌝ }
+    ensures { λ r. ⌜ r ≡ exceedsAt (hallOf m [] [] (now (marks .entry))) t s (sideAt i) ⌝ }
 {
-    let s = k / 4;
-    let side = side_at(k % 4);
+    let side = side_at(i);
     if is_edge(m, t, s, side) {
         return windows_on(marks, beyond(m, s, side), opposite(side)) < windows_on(marks, s, side);
     }
     false
 }
 
-// Whether any side has.
+// Whether it has on any of its sides.
+fn sector_exceeds(m: Measures, marks: &[u16], t: usize, s: usize) -> bool
+    requires { ⌜ Floor m × Small (now marks) × (t < sectors m) × (s < sectors m) × (isNearby m t s ≡ true) ⌝ }
+    ensures { λ r. ⌜ r ≡ sectorExceeds (hallOf m [] [] (now (marks .entry))) t s ⌝ }
+{
+    let mut i = 0;
+    while i < 4 {
+        if exceeds_at(m, marks, t, s, i) {
+            return true;
+        }
+        i += 1;
+    }
+    false
+}
+
+// Whether the sector at place k around t has, if there is one.
+fn place_exceeds(m: Measures, marks: &[u16], t: usize, k: usize) -> bool
+    requires { ⌜ Floor m × Small (now marks) × (t < sectors m) × (k < 9) ⌝ }
+    ensures { λ r. ⌜ r ≡ placeExceeds (hallOf m [] [] (now (marks .entry))) t k ⌝ }
+{
+    if is_there(m, t, k) {
+        return sector_exceeds(m, marks, t, nearby(m, t, k));
+    }
+    false
+}
+
+// Whether any side has. Only sides of the sectors around t can.
 fn any_exceeds(m: Measures, marks: &[u16], t: usize) -> bool
     requires { ⌜ Floor m × Small (now marks) × (t < sectors m) ⌝ }
     ensures { λ r. ⌜ r ≡ exceeds (hallOf m [] [] (now (marks .entry))) t ⌝ }
 {
-    let n = sectors(m) * 4;
     let mut k = 0;
-    while k < n {
-        if exceeds_at(m, marks, t, k) {
+    while k < 9 {
+        if place_exceeds(m, marks, t, k) {
             return true;
         }
         k += 1;

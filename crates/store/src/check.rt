@@ -1,7 +1,7 @@
 // The store check, which opens each call on a store.
 ghost use mathlib.Core.Path.{_≡_};
 ghost use mathlib.Core.Bool.{not};
-ghost use Prim.Native.Nat.{_*_, _≤_, _<_};
+ghost use Prim.Native.Nat.{_+_, _*_, _≤_, _<_};
 ghost use lib.Dec.{ltb, eqb};
 ghost use lib.ListN.{length};
 ghost use Rattle.laws.specs.Search.{any};
@@ -9,12 +9,12 @@ ghost use Rattle.model.specs.Sectors.{sectors, cells};
 ghost use Rattle.model.specs.Store.{sizeOf, marksIn};
 ghost use Rattle.model.specs.Calls.{outside, badSectors, badScale, badMark, checkNumber};
 ghost use Rattle.store.specs.Checks.{Sized};
+ghost use Rattle.store.specs.Ends.{isAbove, columnEnds, rowEnds};
 use crate::bytes::measures_at;
 use crate::bytes::size_of;
 use crate::bytes::u16_at;
-use fields::cells::side_at;
+use fields::numbers::wide;
 use fields::sectors::cells;
-use fields::sectors::has_beyond;
 use fields::sectors::sectors;
 use model::Measures;
 
@@ -58,32 +58,105 @@ pub fn too_short(st: &[u8], m: Measures) -> bool
     st.len() < size_of(m)
 }
 
-// Whether mark k of a store is above 1,023, or not 0 on a side without neighbour.
-fn bad_mark(st: &[u8], m: Measures, k: usize) -> bool
+// Whether mark k of a store is above a limit.
+fn is_above(st: &[u8], m: Measures, limit: usize, k: usize) -> bool
     requires { ⌜ Sized m × (sizeOf m ≤ length (now st)) × (k < sectors m * 4) ⌝ }
-    ensures { λ r. ⌜ r ≡ badMark m (marksIn m (now (st .entry))) k ⌝ }
+    ensures { λ r. ⌜ r ≡ isAbove (marksIn m (now (st .entry))) limit k ⌝ }
 {
-    let mark = u16_at(st, 4 + 2 * cells(m) + 2 * k);
-    if has_beyond(m, k / 4, side_at(k % 4)) {
-        return 1023 < mark;
-    }
-    0 < mark
+    limit < u16_at(st, 4 + 2 * cells(m) + 2 * k)
 }
 
-// Whether any mark is.
-fn any_bad_mark(st: &[u8], m: Measures) -> bool
+// Whether any mark is above 1,023.
+fn any_large(st: &[u8], m: Measures) -> bool
     requires { ⌜ Sized m × (sizeOf m ≤ length (now st)) ⌝ }
-    ensures { λ r. ⌜ r ≡ any (badMark m (marksIn m (now (st .entry)))) (sectors m * 4) ⌝ }
+    ensures { λ r. ⌜ r ≡ any (isAbove (marksIn m (now (st .entry))) 1023) (sectors m * 4) ⌝ }
 {
     let n = sectors(m) * 4;
     let mut k = 0;
     while k < n {
-        if bad_mark(st, m, k) {
+        if is_above(st, m, 1023, k) {
             return true;
         }
         k += 1;
     }
     false
+}
+
+// The first sector of column x.
+fn first_in(m: Measures, x: usize) -> usize
+    requires { ⌜ x < m .columns ⌝ }
+    ensures { λ r. ⌜ (r ≡ x * m .rows) × (r + m .rows ≤ sectors m) ⌝ }
+{
+    x * wide(m.rows)
+}
+
+// Whether column x has a mark at an end: on the north side of its first sector, or on the south side of its last.
+fn column_ends(st: &[u8], m: Measures, x: usize) -> bool
+    requires { ⌜ Sized m × (sizeOf m ≤ length (now st)) × (x < m .columns) ⌝ }
+    ensures { λ r. ⌜ r ≡ columnEnds m (marksIn m (now (st .entry))) x ⌝ }
+{
+    let first = first_in(m, x);
+    if is_above(st, m, 0, first * 4) {
+        return true;
+    }
+    is_above(st, m, 0, (first + wide(m.rows) - 1) * 4 + 2)
+}
+
+// Whether any column has.
+fn any_column_ends(st: &[u8], m: Measures) -> bool
+    requires { ⌜ Sized m × (sizeOf m ≤ length (now st)) ⌝ }
+    ensures { λ r. ⌜ r ≡ any (columnEnds m (marksIn m (now (st .entry)))) (m .columns) ⌝ }
+{
+    let n = wide(m.columns);
+    let mut x = 0;
+    while x < n {
+        if column_ends(st, m, x) {
+            return true;
+        }
+        x += 1;
+    }
+    false
+}
+
+// Whether row y has a mark at an end: on the west side of its first sector, or on the east side of its last.
+fn row_ends(st: &[u8], m: Measures, y: usize) -> bool
+    requires { ⌜ Sized m × (sizeOf m ≤ length (now st)) × (y < m .rows) ⌝ }
+    ensures { λ r. ⌜ r ≡ rowEnds m (marksIn m (now (st .entry))) y ⌝ }
+{
+    if is_above(st, m, 0, y * 4 + 3) {
+        return true;
+    }
+    is_above(st, m, 0, (sectors(m) - wide(m.rows) + y) * 4 + 1)
+}
+
+// Whether any row has.
+fn any_row_ends(st: &[u8], m: Measures) -> bool
+    requires { ⌜ Sized m × (sizeOf m ≤ length (now st)) ⌝ }
+    ensures { λ r. ⌜ r ≡ any (rowEnds m (marksIn m (now (st .entry)))) (m .rows) ⌝ }
+{
+    let n = wide(m.rows);
+    let mut y = 0;
+    while y < n {
+        if row_ends(st, m, y) {
+            return true;
+        }
+        y += 1;
+    }
+    false
+}
+
+// Whether any mark of a store is above 1,023, or not 0 on a side without neighbour, which is at an end of a column or row.
+fn any_bad_mark(st: &[u8], m: Measures) -> bool
+    requires { ⌜ Sized m × (sizeOf m ≤ length (now st)) ⌝ }
+    ensures { λ r. ⌜ r ≡ any (badMark m (marksIn m (now (st .entry)))) (sectors m * 4) ⌝ }
+{
+    if any_large(st, m) {
+        return true;
+    }
+    if any_column_ends(st, m) {
+        return true;
+    }
+    any_row_ends(st, m)
 }
 
 // The number of the first refusal that applies to a store, or 0.

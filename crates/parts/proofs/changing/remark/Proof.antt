@@ -1,25 +1,25 @@
--- `remark` marks the sides of the sectors nearby one after the other.
+-- `remark` marks the sectors of the nine places one after the other.
 use Prim.Native.Nat.{_-_}
-use mathlib.Core.Path.{refl}
-use Rattle.laws.specs.Fold.{Ran, counting}
-use Rattle.model.specs.Change.{remarked}
-use Rattle.parts.specs.Marks.{nearbyFresh}
-use Rattle.parts.specs.Each.{each, each-end}
+use mathlib.Core.Path.{_∙_}
+use Rattle.laws.specs.Fold.{Ran, ran-end, counting}
+use Rattle.model.specs.Nearby.{atNearby}
+use Rattle.parts.specs.Around.{sectorFresh}
+use Rattle.parts.proofs.Around.{remarked-by}
 use borrow.Author.Needs.{needs}
 use Rattle.parts.proofs.changing.remark.Statement.{statement}
 use Rattle.parts.proofs.changing.remark.Tie as tie
 
 abbrev Inv-loop : tie.InvT-loop
-Inv-loop m costs t marks₀ n k₀ marks k = Ran (each (nearbyFresh m costs t)) n k marks₀ marks
+Inv-loop m costs t marks₀ k₀ marks k = Ran (atNearby m t (sectorFresh m costs)) 9 k marks₀ marks
 
 abbrev μ-loop : tie.MeasureT-loop
-μ-loop m costs t marks₀ n k₀ marks k = n - k
+μ-loop m costs t marks₀ k₀ marks k = 9 - k
 
 loop-holds : tie.Need-loop-holds Inv-loop μ-loop
 loop-holds c = search (needs, counting)
 
-remark-side-requires : tie.Need-remark-side-requires Inv-loop μ-loop
-remark-side-requires c κs = search needs
+remark-place-requires : tie.Need-remark-place-requires Inv-loop μ-loop
+remark-place-requires c κs = search needs
 
 add-k : tie.Need-add-k Inv-loop μ-loop
 add-k c = search needs
@@ -34,8 +34,7 @@ same-length : tie.Need-same-length Inv-loop μ-loop
 same-length c = search needs
 
 returns : tie.Need-returns Inv-loop μ-loop
-unfolding remarked
-returns c = each-end _ (c .before .loop .inv) (search needs) refl (search needs)
+returns c = ran-end (c .before .loop .inv) (search needs) ∙ remarked-by _ _ _ _ (search needs)
 
 pub remark-spec : {M : Type 1} → statement M
 remark-spec =
@@ -44,7 +43,7 @@ remark-spec =
     Inv-loop
     μ-loop
     loop-holds
-    remark-side-requires
+    remark-place-requires
     add-k
     loop-less
     loop-again

@@ -1,60 +1,46 @@
--- `any_bad_mark` answers whether a mark of a store is refused: no mark passed was.
-use Prim.Native.Nat.{_-_}
-use native.Mathlib.Omega.{arith}
-use Rattle.laws.specs.Search.{Clear, seeking}
-use Rattle.model.specs.Calls.{badMark}
-use Rattle.model.specs.Sectors.{sectors}
+-- `any_bad_mark` answers whether a mark of a store is refused, by the three places where one can be.
+use denote.Ref.{now}
 use Rattle.model.specs.Store.{marksIn}
-use Rattle.store.specs.Checks.{few-sectors}
+use Rattle.store.specs.Ends.{bad-any}
 use borrow.Author.Needs.{needs}
 use Rattle.store.proofs.check.any_bad_mark.Statement.{statement}
 use Rattle.store.proofs.check.any_bad_mark.Tie as tie
 
-abbrev Inv-loop : tie.InvT-loop
-Inv-loop st m n k₀ k = Clear (badMark m (marksIn m st)) n k
+any-large-requires : tie.Need-any-large-requires
+any-large-requires c κs = search needs
 
-abbrev μ-loop : tie.MeasureT-loop
-μ-loop st m n k₀ k = n - k
+returns : tie.Need-returns
+returns c =
+    let s = c .before .before .before in
+    rw (bad-any (s .args .m) (marksIn (s .args .m) (now (s .args .st))) (s .pre .0), ← c .before .any-large .ensures, c .if1 .taken)
 
-sectors-requires : tie.Need-sectors-requires Inv-loop μ-loop
-sectors-requires c κs = search needs
+any-column-ends-requires : tie.Need-any-column-ends-requires
+any-column-ends-requires c κs = search needs
 
-mul-n : tie.Need-mul-n Inv-loop μ-loop
-mul-n c = omega (arith, few-sectors (c .before .before .pre .0))
+returns-2 : tie.Need-returns-2
+returns-2 c =
+    let large = c .before .before in
+    let s = large .before .before .before in
+    rw (bad-any (s .args .m) (marksIn (s .args .m) (now (s .args .st))) (s .pre .0), ← large .before .any-large .ensures, large .if1 .left, ← c .before .any-column-ends .ensures, c .if2 .taken)
 
-loop-holds : tie.Need-loop-holds Inv-loop μ-loop
-loop-holds c = search (needs, seeking)
+any-row-ends-requires : tie.Need-any-row-ends-requires
+any-row-ends-requires c κs = search needs
 
-bad-mark-requires : tie.Need-bad-mark-requires Inv-loop μ-loop
-bad-mark-requires c κs = search needs
-
-returns : tie.Need-returns Inv-loop μ-loop
-returns c = rw (← c .before .before .before .before .sectors .ensures) (search (needs, seeking))
-
-add-k : tie.Need-add-k Inv-loop μ-loop
-add-k c = search needs
-
-loop-less : tie.Need-loop-less Inv-loop μ-loop
-loop-less c = search needs
-
-loop-again : tie.Need-loop-again Inv-loop μ-loop
-loop-again c = search (needs, seeking)
-
-returns-2 : tie.Need-returns-2 Inv-loop μ-loop
-returns-2 c = rw (← c .before .before .sectors .ensures) (search (needs, seeking))
+returns-3 : tie.Need-returns-3
+returns-3 c =
+    let columns = c .before in
+    let large = columns .before .before in
+    let s = large .before .before .before in
+    rw (bad-any (s .args .m) (marksIn (s .args .m) (now (s .args .st))) (s .pre .0), ← large .before .any-large .ensures, large .if1 .left, ← columns .before .any-column-ends .ensures, columns .if2 .left)
+    (c .any-row-ends .ensures)
 
 pub any-bad-mark-spec : {M : Type 1} → statement M
 any-bad-mark-spec =
     tie.close
     (tie.spec
-    Inv-loop
-    μ-loop
-    sectors-requires
-    mul-n
-    loop-holds
-    bad-mark-requires
+    any-large-requires
     returns
-    add-k
-    loop-less
-    loop-again
-    returns-2)
+    any-column-ends-requires
+    returns-2
+    any-row-ends-requires
+    returns-3)
