@@ -5,17 +5,15 @@ ghost use mathlib.Core.Bool.{false};
 ghost use Prim.Native.Nat.{ℕ, _+_, _*_, _/_, _≤_, _<_};
 ghost use mathlib.Core.List.{List};
 ghost use lib.ListN.{length, getD, set, replicate};
-ghost use Rattle.laws.specs.Graph.{Sound, BothWays};
+ghost use Rattle.laws.specs.Graph.{BothWays};
 ghost use Rattle.laws.specs.LeastCosts.{relaxed};
 ghost use Rattle.laws.specs.Waiting.{awaited, work};
-ghost use Rattle.model.specs.declared.Measures.{Measures};
 ghost use Rattle.model.specs.Sectors.{sectors};
 ghost use Rattle.model.specs.LeastPath.{keysTo};
 ghost use Rattle.graph.specs.EdgeTable.{tableGraph};
 ghost use Rattle.graph.specs.Extending.{Keeps};
 ghost use Rattle.graph.specs.Searching.{Searched, Lined, Turned};
 ghost use Rattle.graph.specs.Turns.{Offerless, Served};
-ghost use Rattle.graph.specs.Ends.{Tried, Begun, Nearest};
 use crate::portals::head_of;
 use model::Measures;
 
@@ -189,7 +187,7 @@ fn drain(
 }
 
 // The numbers below n that wait make up the queue. Says where it ends.
-fn collect(n: usize, wait: &[u8], queue: &mut [u16]) -> usize
+pub fn collect(n: usize, wait: &[u8], queue: &mut [u16]) -> usize
     requires { ⌜ (n ≤ 2000) × (n ≤ length (now wait)) × (n ≤ length (now queue)) ⌝ }
     ensures { λ r. ⌜ Lined n (now (wait .entry)) (now (queue .exit)) r ⌝ }
 {
@@ -206,7 +204,7 @@ fn collect(n: usize, wait: &[u8], queue: &mut [u16]) -> usize
 }
 
 // The queue is served, and then what waits again, until no number waits.
-fn settle(
+pub fn settle(
     m: Measures,
     table: &[u32],
     keys: &mut [u32],
@@ -239,7 +237,8 @@ fn begin(e: usize, keys: &mut [u32], wait: &mut [u8], queue: &mut [u16])
     queue[0] = e as u16;
 }
 
-fn fill_keys(keys: &mut [u32])
+// No key is known yet.
+pub fn fill_keys(keys: &mut [u32])
     ensures { λ _. ⌜ now (keys .exit) ≡ replicate (length (now (keys .entry))) 4294967295 ⌝ }
 {
     let mut i = 0;
@@ -249,7 +248,8 @@ fn fill_keys(keys: &mut [u32])
     }
 }
 
-fn fill_wait(wait: &mut [u8])
+// No number waits.
+pub fn fill_wait(wait: &mut [u8])
     ensures { λ _. ⌜ now (wait .exit) ≡ replicate (length (now (wait .entry))) 0 ⌝ }
 {
     let mut i = 0;
@@ -285,65 +285,4 @@ pub fn keys_to(m: Measures, table: &[u32], e: usize, keys: &mut [u32])
     let mut wait: [u8; 2000] = [0; 2000];
     let mut queue: [u16; 4096] = [0; 4096];
     search(m, table, e, keys, &mut wait, &mut queue);
-}
-
-// The end with number v begins with the moves from there to the goal, if that is less, and then waits.
-fn offer_end(v: usize, last: u8, keys: &mut [u32], wait: &mut [u8])
-    requires { ⌜ (v < length (now keys)) × (v < length (now wait)) × (v < 65536) ⌝ }
-    ensures { λ _. ⌜ Tried v last (now (keys .entry)) (now (wait .entry)) (now (keys .exit)) (now (wait .exit)) ⌝ }
-{
-    if last == 255 {
-        return;
-    }
-    let w = 4096 * (last as u32 + 1);
-    if keys[v] <= w {
-        return;
-    }
-    keys[v] = w;
-    wait[v] = 1;
-}
-
-// The goal's turn: its arcs to the ends of the sector whose first number is q.
-fn offer_ends(q: usize, lasts: &[u8], keys: &mut [u32], wait: &mut [u8])
-    requires { ⌜ (q + 20 ≤ length (now keys)) × (length (now keys) ≤ 2000) × (length (now wait) ≡ length (now keys)) × (length (now lasts) ≡ 20) ⌝ }
-    ensures { λ _. ⌜ ((m : Measures) (table : List ℕ) → Sound (tableGraph m table) → length (now (keys .entry)) ≡ sectors m * 20 → Begun m table q (now (lasts .entry)) 0 (now (keys .entry)) (now (wait .entry)) → Begun m table q (now (lasts .entry)) 20 (now (keys .exit)) (now (wait .exit))) ⌝ }
-{
-    let mut k = 0;
-    while k < 20 {
-        offer_end(q + k, lasts[k], keys, wait);
-        k += 1;
-    }
-}
-
-// The least keys over all ends, with a list of those that wait and a queue of them.
-fn search_ends(
-    m: Measures,
-    table: &[u32],
-    q: usize,
-    lasts: &[u8],
-    keys: &mut [u32],
-    wait: &mut [u8],
-    queue: &mut [u16],
-)
-    requires { ⌜ Searched m (now table) (length (now keys)) (length (now wait)) × (length (now wait) ≡ sectors m * 20) × (q + 20 ≤ sectors m * 20) × (length (now lasts) ≡ 20) × (2000 ≤ length (now queue)) ⌝ }
-    requires { ⌜ BothWays (tableGraph m (now table)) ⌝ }
-    ensures { λ _. ⌜ Nearest (tableGraph m (now (table .entry))) q (now (lasts .entry)) (now (keys .exit)) ⌝ }
-{
-    fill_keys(keys);
-    fill_wait(wait);
-    offer_ends(q, lasts, keys, wait);
-    let end = collect(keys.len(), wait, queue);
-    settle(m, table, keys, wait, queue, end);
-}
-
-// The least key from each portal to the goal over one of the ends, whose numbers begin at q: 4,096 for each move from the end to the goal and 4,096 more are counted in. 4294967295 where there is none.
-pub fn keys_to_goal(m: Measures, table: &[u32], q: usize, lasts: &[u8], keys: &mut [u32])
-    requires { ⌜ Searched m (now table) (length (now keys)) 2000 × (q + 20 ≤ sectors m * 20) × (length (now lasts) ≡ 20) ⌝ }
-    requires { ⌜ BothWays (tableGraph m (now table)) ⌝ }
-    ensures { λ _. ⌜ Nearest (tableGraph m (now (table .entry))) q (now (lasts .entry)) (now (keys .exit)) ⌝ }
-{
-    let mut wait: [u8; 2000] = [0; 2000];
-    let mut queue: [u16; 4096] = [0; 4096];
-    let n = keys.len();
-    search_ends(m, table, q, lasts, keys, &mut wait[..n], &mut queue);
 }

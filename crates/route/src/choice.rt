@@ -9,8 +9,8 @@ ghost use Rattle.graph.specs.EdgeTable.{tableGraph};
 ghost use Rattle.graph.specs.Searching.{Searched};
 ghost use Rattle.route.specs.Choosing.{runFor, runIn, Foremost};
 ghost use Rattle.route.specs.FirstPair.{First, placeRun};
+use graph::ends::keys_to_goal;
 use graph::keys::keys_to;
-use graph::keys::keys_to_goal;
 use model::Measures;
 
 // The run of a pair by the key of its path, its leg and the moves from its end to the goal; 4294967295 where it is no pair.
@@ -49,7 +49,7 @@ fn first_place(keys: &[u32], p: usize, legs: &[u8], lasts: &[u8]) -> usize
 }
 
 // The number of the first pair of the least run, start by start, or 400 where there is none: from the sector whose first number is p to the one whose first number is q.
-// The start is the first of least cost to the goal over any end, and the end is the first of least run from it. The costs count no leg, and the keys back to the start no last moves.
+// The start is the first of least cost to the goal over any end, and the end is the first of least run from it. Zeros stand for last moves where the keys count them, and for legs where the start is chosen.
 pub fn choose_pair(
     m: Measures,
     table: &[u32],

@@ -5,8 +5,8 @@ use lib.ListN.{length, length-take}
 use denote.Ref.{now}
 use borrow.Author.Needs.{needs}
 use Rattle.graph.specs.Searching.{searched-in}
-use Rattle.graph.proofs.keys.keys_to_goal.Statement.{statement}
-use Rattle.graph.proofs.keys.keys_to_goal.Tie as tie
+use Rattle.graph.proofs.ends.keys_to_goal.Statement.{statement}
+use Rattle.graph.proofs.ends.keys_to_goal.Tie as tie
 
 -- the function's entry
 abbrev S : tie.After-search-ends-arg → tie.Start

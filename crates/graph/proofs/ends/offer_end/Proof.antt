@@ -3,8 +3,8 @@ use native.Mathlib.Omega.{arith}
 use mathlib.Core.Path.{refl}
 use Rattle.graph.specs.Ends.{passed, took}
 use borrow.Author.Needs.{needs}
-use Rattle.graph.proofs.keys.offer_end.Statement.{statement}
-use Rattle.graph.proofs.keys.offer_end.Tie as tie
+use Rattle.graph.proofs.ends.offer_end.Statement.{statement}
+use Rattle.graph.proofs.ends.offer_end.Tie as tie
 
 returns : tie.Need-returns
 returns c = passed (λ l. absurd (omega (arith, c .if1 .taken))) refl refl

@@ -10,8 +10,8 @@ use Rattle.model.specs.declared.Measures.{Measures}
 use Rattle.model.specs.Sectors.{sectors}
 use Rattle.graph.specs.EdgeTable.{tableGraph}
 use Rattle.graph.specs.Ends.{Begun, ends-more}
-use Rattle.graph.proofs.keys.offer_ends.Statement.{statement}
-use Rattle.graph.proofs.keys.offer_ends.Tie as tie
+use Rattle.graph.proofs.ends.offer_ends.Statement.{statement}
+use Rattle.graph.proofs.ends.offer_ends.Tie as tie
 
 abbrev Inv-loop : tie.InvT-loop
 Inv-loop q lasts keys₀ wait₀ k₀ keys wait k =

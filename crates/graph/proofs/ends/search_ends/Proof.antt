@@ -10,8 +10,8 @@ use Rattle.model.specs.Sectors.{sectors}
 use Rattle.model.specs.LeastPath.{unlinked}
 use Rattle.graph.specs.Searching.{searched-in}
 use Rattle.graph.specs.Ends.{endsGraph, ends-extends, ends-none, ends-all, ends-over, ends-nearest}
-use Rattle.graph.proofs.keys.search_ends.Statement.{statement}
-use Rattle.graph.proofs.keys.search_ends.Tie as tie
+use Rattle.graph.proofs.ends.search_ends.Statement.{statement}
+use Rattle.graph.proofs.ends.search_ends.Tie as tie
 
 -- the calls one before the other, and the function's entry
 abbrev C : tie.After-settle → tie.After-collect
