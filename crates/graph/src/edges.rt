@@ -5,14 +5,14 @@ ghost use lib.ListN.{length, getD};
 ghost use Rattle.model.specs.Sectors.{sectors, costsOf};
 ghost use Rattle.model.specs.Portals.{outerEdge};
 ghost use Rattle.model.specs.Store.{decode};
-ghost use Rattle.portal.specs.Levels.{openRows, Guarded, movesIn};
+ghost use Rattle.portal.specs.Levels.{openWords, movesIn};
 ghost use Rattle.graph.specs.EdgeTable.{Opened, Filled, Row, edgeTable};
 ghost use Rattle.graph.specs.Near.{sectorMids};
 ghost use Rattle.graph.specs.Weights.{edgeBy};
 use crate::near::moves_from;
 use crate::near::near_by;
 use crate::near::sector_mids;
-use crate::near::sector_rows;
+use crate::near::sector_words;
 use crate::portals::facing;
 use crate::portals::is_portal;
 use fields::cells::side_at;
@@ -20,7 +20,6 @@ use fields::numbers::wide;
 use fields::sectors::has_beyond;
 use fields::sectors::sectors;
 use model::Measures;
-use portal::moves::no_levels;
 
 // A portal's edge to the facing one, or 0.
 fn outer_edge(st: &[u8], m: Measures, p: usize) -> u32
@@ -37,8 +36,8 @@ fn outer_edge(st: &[u8], m: Measures, p: usize) -> u32
 }
 
 // The edge at place c of a portal, or 0: at its own place the edge to the facing one, at another the moves to the midpoint there.
-fn edge_at(levels: &[u16], n: usize, mid: u8, outer: u32, own: usize, c: usize) -> u32
-    requires { ⌜ (length (now levels) ≡ 1212) × (n ≤ 101) ⌝ }
+fn edge_at(levels: &[u64], n: usize, mid: u8, outer: u32, own: usize, c: usize) -> u32
+    requires { ⌜ (length (now levels) ≡ 202) × (n ≤ 101) ⌝ }
     ensures { λ r. ⌜ r ≡ edgeBy (movesIn (now (levels .entry)) n) mid outer own c ⌝ }
 {
     if c == own {
@@ -52,8 +51,8 @@ fn edge_at(levels: &[u16], n: usize, mid: u8, outer: u32, own: usize, c: usize) 
 }
 
 // The 20 places of portal p, by the levels of the moves from its midpoint and the midpoints of its sector.
-fn fill_places(p: usize, levels: &[u16], n: usize, mids: &[u8], outer: u32, table: &mut [u32])
-    requires { ⌜ (length (now levels) ≡ 1212) × (n ≤ 101) × (length (now mids) ≡ 20) × (p < 2000) × (p * 20 + 20 ≤ length (now table)) ⌝ }
+fn fill_places(p: usize, levels: &[u64], n: usize, mids: &[u8], outer: u32, table: &mut [u32])
+    requires { ⌜ (length (now levels) ≡ 202) × (n ≤ 101) × (length (now mids) ≡ 20) × (p < 2000) × (p * 20 + 20 ≤ length (now table)) ⌝ }
     ensures { λ _. ⌜ Row (λ c. edgeBy (movesIn (now (levels .entry)) n) (getD (now (mids .entry)) c 0) outer (p % 20) c) p 20 (now (table .entry)) (now (table .exit)) ⌝ }
 {
     let mut c = 0;
@@ -81,20 +80,20 @@ fn fill_number(
     m: Measures,
     p: usize,
     mids: &[u8],
-    rows: &[u16],
-    levels: &mut [u16],
+    words: &[u64],
+    levels: &mut [u64],
     table: &mut [u32],
 )
     requires { ⌜ Opened m (now st) × (p < sectors m * 20) × (now mids ≡ sectorMids (decode (now st)) (p / 20)) × Filled (decode (now st)) (p * 20) (now table) ⌝ }
-    requires { ⌜ (now rows ≡ openRows (costsOf (decode (now st) .scaled) (p / 20))) × Guarded (now levels) ⌝ }
-    ensures { λ _. ⌜ Filled (decode (now (st .entry))) (p * 20 + 20) (now (table .exit)) × Guarded (now (levels .exit)) ⌝ }
+    requires { ⌜ (now words ≡ openWords (costsOf (decode (now st) .scaled) (p / 20))) × (length (now levels) ≡ 202) ⌝ }
+    ensures { λ _. ⌜ Filled (decode (now (st .entry))) (p * 20 + 20) (now (table .exit)) ⌝ }
 {
     let mid = mids[p % 20];
     if 100 <= mid {
         clear_places(p, table);
         return;
     }
-    let n = moves_from(st, m, p / 20 * 100 + wide(mid), rows, levels);
+    let n = moves_from(st, m, p / 20 * 100 + wide(mid), words, levels);
     let outer = outer_edge(st, m, p);
     fill_places(p, levels, n, mids, outer, table);
 }
@@ -105,13 +104,13 @@ fn fill_sector(st: &[u8], m: Measures, s: usize, table: &mut [u32])
     ensures { λ _. ⌜ Filled (decode (now (st .entry))) (s * 400 + 400) (now (table .exit)) ⌝ }
 {
     let mut mids: [u8; 20] = [100; 20];
-    let mut rows: [u16; 10] = [0; 10];
-    let mut levels = no_levels();
+    let mut words: [u64; 2] = [0; 2];
+    let mut levels: [u64; 202] = [0; 202];
     sector_mids(st, m, s, &mut mids);
-    sector_rows(st, m, s, &mut rows);
+    sector_words(st, m, s, &mut words);
     let mut c = 0;
     while c < 20 {
-        fill_number(st, m, s * 20 + c, &mids, &rows, &mut levels, table);
+        fill_number(st, m, s * 20 + c, &mids, &words, &mut levels, table);
         c += 1;
     }
 }

@@ -6,7 +6,7 @@ ghost use Rattle.laws.specs.Fold.{pick};
 ghost use Rattle.model.specs.Sectors.{sectors, cells, sectorOf, placeOf, costsOf};
 ghost use Rattle.model.specs.Moves.{moves, movesTo, joined, apart};
 ghost use Rattle.model.specs.Store.{decode};
-ghost use Rattle.portal.specs.Levels.{openRows, Guarded, Spread, movesIn};
+ghost use Rattle.portal.specs.Levels.{openWords, Spread, movesIn};
 ghost use Rattle.graph.specs.EdgeTable.{Opened};
 ghost use Rattle.graph.specs.Near.{midOf, sectorMids, nearBy, portalMoves};
 use crate::portals::is_portal;
@@ -16,8 +16,7 @@ use fields::numbers::wide;
 use fields::sectors::cells;
 use model::Measures;
 use portal::moves::moves_at;
-use portal::moves::no_levels;
-use portal::moves::open_rows;
+use portal::moves::open_words;
 use portal::moves::spread;
 
 // The index of a portal's midpoint, or 100 where the number is no portal's.
@@ -44,8 +43,8 @@ pub fn sector_mids(st: &[u8], m: Measures, s: usize, mids: &mut [u8])
 }
 
 // The moves to a midpoint, by n levels, or 255 where there is none.
-pub fn near_by(levels: &[u16], n: usize, mid: u8) -> u8
-    requires { ⌜ (length (now levels) ≡ 1212) × (n ≤ 101) ⌝ }
+pub fn near_by(levels: &[u64], n: usize, mid: u8) -> u8
+    requires { ⌜ (length (now levels) ≡ 202) × (n ≤ 101) ⌝ }
     ensures { λ r. ⌜ r ≡ nearBy (movesIn (now (levels .entry)) n) mid ⌝ }
 {
     if 100 <= mid {
@@ -54,24 +53,24 @@ pub fn near_by(levels: &[u16], n: usize, mid: u8) -> u8
     moves_at(levels, n, wide(mid))
 }
 
-// The open cells of sector s, a row at a time.
-pub fn sector_rows(st: &[u8], m: Measures, s: usize, rows: &mut [u16])
-    requires { ⌜ Opened m (now st) × (s < sectors m) × (length (now rows) ≡ 10) ⌝ }
-    ensures { λ _. ⌜ now (rows .exit) ≡ openRows (costsOf (decode (now (st .entry)) .scaled) s) ⌝ }
+// The open cells of sector s, in two words.
+pub fn sector_words(st: &[u8], m: Measures, s: usize, words: &mut [u64])
+    requires { ⌜ Opened m (now st) × (s < sectors m) × (length (now words) ≡ 2) ⌝ }
+    ensures { λ _. ⌜ now (words .exit) ≡ openWords (costsOf (decode (now (st .entry)) .scaled) s) ⌝ }
 {
     let start = 4 + cells(m) + s * 100;
     let end = start + 100;
-    open_rows(&st[start..end], rows);
+    open_words(&st[start..end], words);
 }
 
 // The levels of the moves from cell x, by the open cells of its sector, and how many there are.
-pub fn moves_from(st: &[u8], m: Measures, x: usize, rows: &[u16], levels: &mut [u16]) -> usize
-    requires { ⌜ Opened m (now st) × (x < cells m) × (now rows ≡ openRows (costsOf (decode (now st) .scaled) (sectorOf x))) × Guarded (now levels) ⌝ }
+pub fn moves_from(st: &[u8], m: Measures, x: usize, words: &[u64], levels: &mut [u64]) -> usize
+    requires { ⌜ Opened m (now st) × (x < cells m) × (now words ≡ openWords (costsOf (decode (now st) .scaled) (sectorOf x))) × (length (now levels) ≡ 202) ⌝ }
     ensures { λ r. ⌜ Spread (moves (costsOf (decode (now (st .entry)) .scaled) (sectorOf x)) (placeOf x)) (now (levels .exit)) r ⌝ }
 {
     let start = 4 + cells(m) + x / 100 * 100;
     let end = start + 100;
-    spread(&st[start..end], rows, x % 100, levels)
+    spread(&st[start..end], words, x % 100, levels)
 }
 
 // The fewest moves from one cell to another, or 255 where they are not joined.
@@ -82,10 +81,10 @@ pub fn moves_to(st: &[u8], m: Measures, x: usize, y: usize) -> u8
     if x / 100 != y / 100 {
         return 255;
     }
-    let mut rows: [u16; 10] = [0; 10];
-    let mut levels = no_levels();
-    sector_rows(st, m, x / 100, &mut rows);
-    let n = moves_from(st, m, x, &rows, &mut levels);
+    let mut words: [u64; 2] = [0; 2];
+    let mut levels: [u64; 202] = [0; 202];
+    sector_words(st, m, x / 100, &mut words);
+    let n = moves_from(st, m, x, &words, &mut levels);
     moves_at(&levels, n, y % 100)
 }
 
@@ -94,11 +93,11 @@ pub fn portal_moves(st: &[u8], m: Measures, x: usize, near: &mut [u8])
     requires { ⌜ Opened m (now st) × (x < cells m) × (length (now near) ≡ 20) ⌝ }
     ensures { λ _. ⌜ now (near .exit) ≡ portalMoves (decode (now (st .entry))) x ⌝ }
 {
-    let mut rows: [u16; 10] = [0; 10];
-    let mut levels = no_levels();
+    let mut words: [u64; 2] = [0; 2];
+    let mut levels: [u64; 202] = [0; 202];
     let mut mids: [u8; 20] = [100; 20];
-    sector_rows(st, m, x / 100, &mut rows);
-    let n = moves_from(st, m, x, &rows, &mut levels);
+    sector_words(st, m, x / 100, &mut words);
+    let n = moves_from(st, m, x, &words, &mut levels);
     sector_mids(st, m, x / 100, &mut mids);
     let mut c = 0;
     while c < 20 {

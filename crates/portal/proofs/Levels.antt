@@ -1,16 +1,16 @@
--- The levels of a spread of moves: rows that are filled, the first level, the next, and what they tell once no cell is new.
+-- The levels of a spread of moves: the open cells, the first level, the next, and what they tell once no cell is new.
 use Prim.Native.Nat.{ℕ, zero, suc, _+_, _-_, _*_, _/_, _%_, _^_, _≤_, _<_}
-use native.Mathlib.Nat.{add-zero, not-suc-le-zero}
-use native.Mathlib.Decide.{ℕ-discrete}
+use native.Mathlib.Nat.{add-zero, zero-add}
+use native.Mathlib.Numerals.{add-one}
 use native.Mathlib.Omega.{arith}
 use mathlib.Core.Path.{_≡_, refl, sym, ap, ap₂, _∙_}
 use mathlib.Core.Logic.{_⊎_, inl, inr}
 use mathlib.Core.Bool.{Bool, true, false}
 use mathlib.Core.List.{List}
-use lib.Bits.{bitAnd, bitOr, bitXor, and-le-r}
+use lib.Bits.{bitAnd, bitOr, bitXor}
 use lib.Dec.{ltb, leb, eqb}
-use lib.ListN.{length, getD, set, replicate, length-set, length-replicate, getD-replicate, List·getD-eq-default}
-use lib.Pow.{pow-lt}
+use lib.ListN.{length, getD, set, length-set}
+use lib.Pow.{shl-exact}
 use lib.Seq.{ext-getD, getD-set-same, getD-set-other}
 use borrow.Author.Tests.{ltb-true, ltb-false, lt-ltb, le-ltb, leb-true, leb-false, eqb-true, eqb-false, eq-eqb, ne-eqb}
 use Rattle.laws.specs.Fold.{pick}
@@ -23,125 +23,254 @@ use Rattle.model.specs.Costs.{openAt}
 use Rattle.model.specs.Moves.{moves}
 use Rattle.model.specs.Windows.{bits, isOpen}
 use Rattle.model.specs.WindowRuns.{bits-small, bits-open}
-use Rattle.portal.specs.Levels.{openRow, openRows, firstRow, grownRow, grownAt, Rowed, Grown, Guarded, cellBit, missing, movesBy, movesIn, Spread}
-use Rattle.portal.proofs.Bits.{bitAt, AndBit, and-bit, OrBit, or-bit, none-bit, right-bit, left-bit, own-bit, other-bit, or-none, xor-none}
-use Rattle.portal.proofs.Steps.{far, Before, far-start, far-capped, far-none, far-blocked, far-open, far-before, far-next, far-still, far-few, moves-long}
+use Rattle.portal.specs.Levels.{spot, packed, openRow, openWord, openWords, firstWord, grownWord, wordAt, Grown, cellBit, missing, movesBy, movesIn, Spread}
+use Rattle.portal.proofs.Bits.{bitAt, and-bit, or-bit, none-bit, down-bit, up-bit, up-low, cut-bit, high-bit, own-bit, other-bit, or-none, xor-none}
+use Rattle.portal.proofs.Steps.{far, far-start, far-capped, far-none, far-blocked, far-open, far-before, far-next, far-still, far-few, moves-long}
 
--- ---- rows that are filled
-pub rowed-none : (f : ℕ → ℕ) (b : ℕ) (l : List ℕ) → Rowed f b 0 l l
-rowed-none f b l = record { within = omega arith; long = refl; before = λ k h. refl; after = λ k h. refl; at = λ k h. absurd (omega arith) }
+-- a bit that no cell has: the last of a row, and past the rows
+abbrev Out : ℕ → Type 0
+Out k = (k % 11 ≡ 10) ⊎ (55 ≤ k)
 
-pub rowed-more : {f : ℕ → ℕ} {b y w : ℕ} {l₀ l : List ℕ} → Rowed f b y l₀ l → y < 10 → b + y < length l₀ → w ≡ f y → Rowed f b (y + 1) l₀ (set l (b + y) w)
-rowed-more {f} {b} {y} {w} {l₀} {l} r h k e = record {
-  within = omega arith;
-  long = length-set l (b + y) w ∙ r .long;
-  before = λ j m. getD-set-other l (b + y) j w 0 (λ z. omega arith) ∙ r .before j m;
-  after = λ j m. getD-set-other l (b + y) j w 0 (λ z. omega arith) ∙ r .after j (omega arith);
-  at = λ j m. go j m (ℕ-discrete j y);
-}
+-- ---- the bits of cells beside each other
+spot-row : (i : ℕ) → 10 ≤ i % 50 → spot i ≡ 11 + spot (i - 10)
+spot-row i h =
+    let a : (i - 10) % 50 ≡ i % 50 - 10 = omega arith in
+    let b : (i - 10) % 10 ≡ i % 10 = omega arith in
+    rw (a, b) (row (i % 50) (i % 10) h)
   where
-    go : (j : ℕ) → j < y + 1 → Dec (j ≡ y) → getD (set l (b + y) w) (b + j) 0 ≡ f j
-    go j m (yes z) = rw (z, getD-set-same l (b + y) w 0 (omega (arith, r .long))) e
-    go j m (no z) = getD-set-other l (b + y) (b + j) w 0 (λ q. z (omega arith)) ∙ r .at j (omega arith)
+    row : (m x : ℕ) → 10 ≤ m → m / 10 * 11 + x ≡ 11 + ((m - 10) / 10 * 11 + x)
+    row m x l = omega arith
 
-pub rowed-all : {f : ℕ → ℕ} {b y : ℕ} {l₀ l : List ℕ} → Rowed f b y l₀ l → 10 ≤ y → Rowed f b 10 l₀ l
-rowed-all {f} {b} {y} {l₀} {l} r h = let z : y ≡ 10 = omega (arith, r .within) in rw (← z) r
+spot-half : (i : ℕ) → 50 ≤ i → i < 60 → 44 + spot i ≡ spot (i - 10)
+spot-half i h k =
+    let a : i % 50 / 10 ≡ 0 = omega arith in
+    let b : (i - 10) % 50 / 10 ≡ 4 = omega arith in
+    let c : (i - 10) % 10 ≡ i % 10 = omega arith in
+    rw (a, b, c) (omega arith)
 
--- a turn of the loop that makes the next level
-pub grown-none : (rows : List ℕ) (d : ℕ) (l : List ℕ) → Grown rows d 0 l l 0
-grown-none rows d l = record { rowed = rowed-none (grownAt rows l d) (d * 12 + 13) l; still = λ z k h. absurd (omega arith) }
+spot-next : (i : ℕ) → i % 10 < 9 → 1 + spot i ≡ spot (i + 1)
+spot-next i h =
+    let a : (i + 1) % 50 / 10 ≡ i % 50 / 10 = column (i / 50) (i % 50) (omega arith) (omega arith) (omega arith) in
+    let b : (i + 1) % 10 ≡ i % 10 + 1 = omega arith in
+    rw (a, b) (omega arith)
+  where
+    column : (h m : ℕ) {j : ℕ} → m < 50 → m % 10 < 9 → j ≡ h * 50 + m + 1 → j % 50 / 10 ≡ m / 10
+    column h m {j} l c e = let z : j % 50 ≡ m + 1 = omega arith in rw z (omega arith)
 
-module _ {rows : List ℕ} {d y : ℕ} {l₀ l : List ℕ} {change : ℕ} (g : Grown rows d y l₀ l change) (h : y < 10) where
-  pub grown-reads : (k : ℕ) → k < d * 12 + 13 → getD l k 0 ≡ getD l₀ k 0
-  grown-reads k m = g .rowed .before k m
+spot-first : (i : ℕ) → i % 10 ≡ 0 → 0 < spot i → (spot i - 1) % 11 ≡ 10
+spot-first i h l = go (i % 50 / 10) (i % 10) h l
+  where
+    go : (y x : ℕ) → x ≡ 0 → 0 < y * 11 + x → (y * 11 + x - 1) % 11 ≡ 10
+    go y x e k = omega arith
 
-  pub grown-more : {w : ℕ} → d * 12 + 13 + y < length l₀ → w ≡ grownRow (getD rows y 0) (getD l (d * 12 + y) 0) (getD l (d * 12 + y + 1) 0) (getD l (d * 12 + y + 2) 0)
-      → Grown rows d (y + 1) l₀ (set l (d * 12 + 13 + y) w) (bitOr change (bitXor w (getD l (d * 12 + y + 1) 0)))
-  grown-more {w} k e =
-      let new : w ≡ grownAt rows l₀ d y = rw (← grown-reads (d * 12 + y) (omega arith), ← grown-reads (d * 12 + y + 1) (omega arith), ← grown-reads (d * 12 + y + 2) (omega arith)) e in
-      record { rowed = rowed-more (g .rowed) h k new; still = λ z j m. go z j m (ℕ-discrete j y) }
+spot-last : (i : ℕ) → 9 ≤ i % 10 → (1 + spot i) % 11 ≡ 10
+spot-last i h = go (i % 50 / 10) (i % 10) h (omega arith)
+  where
+    go : (y x : ℕ) → 9 ≤ x → x < 10 → (1 + (y * 11 + x)) % 11 ≡ 10
+    go y x a b = omega arith
+
+-- one cell to a bit of a half
+one-spot : (i j : ℕ) → i / 50 ≡ j / 50 → spot i ≡ spot j → i ≡ j
+one-spot i j e f =
+    let s = same (i % 50 / 10) (i % 10) (j % 50 / 10) (j % 10) (omega arith) (omega arith) f in
+    parts i ∙ rw (e, s .0, s .1) (sym (parts j))
+  where
+    same : (y x z w : ℕ) → x < 10 → w < 10 → y * 11 + x ≡ z * 11 + w → (y ≡ z) × (x ≡ w)
+    same y x z w a b e = (omega arith, omega arith)
+
+    parts : (i : ℕ) → i ≡ i / 50 * 50 + i % 50 / 10 * 10 + i % 10
+    parts i =
+        let ten : i % 50 % 10 ≡ i % 10 = omega arith in
+        let five : i % 50 ≡ i % 50 / 10 * 10 + i % 50 % 10 = omega arith in
+        go (i % 50 / 10 * 10) (i % 10) (five ∙ ap (λ (x : ℕ). i % 50 / 10 * 10 + x) ten)
+      where
+        go : (m x : ℕ) → i % 50 ≡ m + x → i ≡ i / 50 * 50 + m + x
+        go m x e = omega arith
+
+-- ---- the open cells
+module _ (row : ℕ → ℕ) (small : (y : ℕ) → row y < 1024) where
+  -- bit x of row y in a word of n rows
+  packed-bit : (n y x : ℕ) → x < 11 → (y < n → bitAt (packed row n) (y * 11 + x) ≡ bitAt (row y) x) × (n ≤ y → bitAt (packed row n) (y * 11 + x) ≡ 0)
+  unfolding packed
+  packed-bit zero y x h = ((λ q. absurd (omega arith)), (λ q. none-bit (y * 11 + x)))
+  packed-bit (suc n) y x h =
+      let more = packed-bit n y x h in
+      let o = or-bit (packed row n) (row n * 2 ^ (n * 11)) (y * 11 + x) in (
+        (λ q. inside (below-or y n) q (more .0) (more .1) (o .left) (o .right) (o .either)),
+        λ q.
+            let at : y * 11 + x ≡ n * 11 + ((y - n) * 11 + x) = omega arith in
+            let off : bitAt (row n * 2 ^ (n * 11)) (y * 11 + x) ≡ 0 = ap (λ (k : ℕ). bitAt (row n * 2 ^ (n * 11)) k) at ∙ up-bit (row n) (n * 11) ((y - n) * 11 + x) ∙ high-bit (row n) ((y - n) * 11 + x) (small n) (omega arith) in
+            omega (arith, o .either, more .1 (omega arith), off),
+      )
     where
-      go : bitOr change (bitXor w (getD l (d * 12 + y + 1) 0)) ≡ 0 → (j : ℕ) → j < y + 1 → Dec (j ≡ y) → getD (set l (d * 12 + 13 + y) w) (d * 12 + 13 + j) 0 ≡ getD l₀ (d * 12 + j + 1) 0
-      go z j m (yes q) =
-          let same : w ≡ getD l (d * 12 + y + 1) 0 = xor-none w (getD l (d * 12 + y + 1) 0) (or-none change (bitXor w (getD l (d * 12 + y + 1) 0)) z .1) in
-          rw (q, getD-set-same l (d * 12 + 13 + y) w 0 (omega (arith, g .rowed .long))) (same ∙ grown-reads (d * 12 + y + 1) (omega arith))
-      go z j m (no q) = getD-set-other l (d * 12 + 13 + y) (d * 12 + 13 + j) w 0 (λ r. q (omega arith)) ∙ g .still (or-none change (bitXor w (getD l (d * 12 + y + 1) 0)) z .0) j (omega arith)
+      inside : {b : ℕ} → (y < n) ⊎ (n ≤ y) → y < suc n → (y < n → bitAt (packed row n) (y * 11 + x) ≡ bitAt (row y) x) → (n ≤ y → bitAt (packed row n) (y * 11 + x) ≡ 0) → bitAt (packed row n) (y * 11 + x) ≤ b
+          → bitAt (row n * 2 ^ (n * 11)) (y * 11 + x) ≤ b → b ≤ bitAt (packed row n) (y * 11 + x) + bitAt (row n * 2 ^ (n * 11)) (y * 11 + x) → b ≡ bitAt (row y) x
+      inside (inl a) q f g u v w = omega (arith, f a, up-low (row n) (n * 11) (y * 11 + x) (omega arith))
+      inside (inr a) q f g u v w =
+          let z : y ≡ n = omega arith in
+          let on : bitAt (row n * 2 ^ (n * 11)) (y * 11 + x) ≡ bitAt (row y) x = rw z (up-bit (row n) (n * 11) x) in
+          omega (arith, g a, on)
 
-pub grown-all : {rows : List ℕ} {d y : ℕ} {l₀ l : List ℕ} {change : ℕ} → Grown rows d y l₀ l change → 10 ≤ y → Grown rows d 10 l₀ l change
-grown-all {rows} {d} {y} {l₀} {l} {change} g h = let z : y ≡ 10 = omega (arith, g .rowed .within) in rw (← z) g
+pub row-small : (costs : List ℕ) (y : ℕ) → openRow costs y < 1024
+unfolding openRow
+row-small costs y = bits-small (λ x. openAt costs (y * 10 + x)) 10
 
-pub guarded-none : Guarded (replicate 1212 0)
-guarded-none = record { long = length-replicate {A = ℕ} 1212 0; first-row = λ d. none (d * 12); last-row = λ d. none (d * 12 + 11) }
-  where
-    none : (k : ℕ) → getD {A = ℕ} (replicate 1212 0) k 0 ≡ 0
-    none k = go (below-or k 1212)
+module _ (costs : List ℕ) {words : List ℕ} (given : words ≡ openWords costs) where
+  word-is : (h : ℕ) → h < 2 → getD words h 0 ≡ openWord costs h
+  unfolding openWords
+  word-is h l = table-at (openWord costs) 2 given h 0 l
+
+  cells-out : (h k : ℕ) → h < 2 → Out k → bitAt (getD words h 0) k ≡ 0
+  unfolding openWord
+  cells-out h k l o =
+      let at : k ≡ k / 11 * 11 + k % 11 = omega arith in
+      let b = packed-bit (λ y. openRow costs (h * 5 + y)) (λ y. row-small costs (h * 5 + y)) 5 (k / 11) (k % 11) (omega arith) in
+      rw (word-is h l) (ap (λ (m : ℕ). bitAt (openWord costs h) m) at ∙ go (below-or (k / 11) 5) o (b .0) (b .1))
+    where
+      go : {b : ℕ} → (k / 11 < 5) ⊎ (5 ≤ k / 11) → Out k → (k / 11 < 5 → b ≡ bitAt (openRow costs (h * 5 + k / 11)) (k % 11)) → (5 ≤ k / 11 → b ≡ 0) → b ≡ 0
+      go (inl a) (inl e) f g = f a ∙ high-bit (openRow costs (h * 5 + k / 11)) (k % 11) (row-small costs (h * 5 + k / 11)) (omega arith)
+      go (inl a) (inr e) f g = absurd (omega arith)
+      go (inr a) e f g = g a
+
+  module _ (i : ℕ) (low : i < 100) where
+    cell-bit : bitAt (getD words (i / 50) 0) (spot i) ≡ bitAt (openRow costs (i / 10)) (i % 10)
+    unfolding openWord
+    cell-bit =
+        let row : i / 50 * 5 + i % 50 / 10 ≡ i / 10 = omega arith in
+        let b = packed-bit (λ y. openRow costs (i / 50 * 5 + y)) (λ y. row-small costs (i / 50 * 5 + y)) 5 (i % 50 / 10) (i % 10) (omega arith) in
+        rw (word-is (i / 50) (omega arith)) (b .0 (omega arith) ∙ ap (λ (y : ℕ). bitAt (openRow costs y) (i % 10)) row)
+
+    cell-open : isOpen (openRow costs (i / 10)) (i % 10) ≡ openAt costs i
+    unfolding openRow
+    cell-open = let at : i / 10 * 10 + i % 10 ≡ i = omega arith in bits-open (λ x. openAt costs (i / 10 * 10 + x)) 10 (i % 10) (omega arith) ∙ ap (openAt costs) at
+
+    open-yes : openAt costs i ≡ true → bitAt (getD words (i / 50) 0) (spot i) ≡ 1
+    unfolding isOpen
+    open-yes o = cell-bit ∙ eqb-true (bitAt (openRow costs (i / 10)) (i % 10)) 1 (cell-open ∙ o)
+
+    open-no : openAt costs i ≡ false → bitAt (getD words (i / 50) 0) (spot i) ≡ 0
+    unfolding isOpen
+    open-no o = cell-bit ∙ off (bitAt (openRow costs (i / 10)) (i % 10)) (omega arith) (eqb-false (bitAt (openRow costs (i / 10)) (i % 10)) 1 (cell-open ∙ o))
       where
-        go : (k < 1212) ⊎ (1212 ≤ k) → getD {A = ℕ} (replicate 1212 0) k 0 ≡ 0
-        go (inl h) = getD-replicate 1212 k 0 0 h
-        go (inr h) = List·getD-eq-default (replicate 1212 0) 0 {n = k} (omega (arith, length-replicate {A = ℕ} 1212 0))
+        off : (n : ℕ) → n < 2 → (n ≡ 1 → ⊥) → n ≡ 0
+        off n h f = go (below-or n 1)
+          where
+            go : (n < 1) ⊎ (1 ≤ n) → n ≡ 0
+            go (inl a) = omega arith
+            go (inr a) = absurd (f (omega arith))
 
--- the first and the last row of each level stay as they are, where those between them are filled
-pub guarded-rows : {f : ℕ → ℕ} {b : ℕ} {l₀ l : List ℕ} (e : ℕ) → Guarded l₀ → Rowed f b 10 l₀ l → b ≡ e * 12 + 1 → Guarded l
-guarded-rows {f} {b} {l₀} {l} e g r q = record {
-  long = r .long ∙ g .long;
-  first-row = λ d. kept (d * 12) (outside d) ∙ g .first-row d;
-  last-row = λ d. kept (d * 12 + 11) (beyond d) ∙ g .last-row d;
-}
-  where
-    kept : (k : ℕ) → (k < b) ⊎ (b + 10 ≤ k) → getD l k 0 ≡ getD l₀ k 0
-    kept k (inl h) = r .before k h
-    kept k (inr h) = r .after k h
+-- ---- the bits of the cells beside a cell
+-- what the words shifted to the cell's bit have there: over the north and the south side the other half may have the cell beside
+abbrev sides : ℕ → ℕ → ℕ → ℕ → Side → ℕ
+sides word k above below North = bitAt (word * 2 ^ 11) k + above
+sides word k above below East = bitAt (word / 2 ^ 1) k
+sides word k above below South = bitAt (word / 2 ^ 11) k + below
+sides word k above below West = bitAt (word * 2 ^ 1) k
 
-    outside : (d : ℕ) → (d * 12 < b) ⊎ (b + 10 ≤ d * 12)
-    outside d = go (below-or e d)
-      where
-        go : (e < d) ⊎ (d ≤ e) → (d * 12 < b) ⊎ (b + 10 ≤ d * 12)
-        go (inl h) = inr (omega arith)
-        go (inr h) = inl (omega arith)
-
-    beyond : (d : ℕ) → (d * 12 + 11 < b) ⊎ (b + 10 ≤ d * 12 + 11)
-    beyond d = go (below-or d e)
-      where
-        go : (d < e) ⊎ (e ≤ d) → (d * 12 + 11 < b) ⊎ (b + 10 ≤ d * 12 + 11)
-        go (inl h) = inl (omega arith)
-        go (inr h) = inr (omega arith)
-
--- ---- the bit of a row and of the cells beside it
 abbrev sideBit : List ℕ → ℕ → ℕ → Side → ℕ
-sideBit l d i North = bitAt (getD l (d * 12 + i / 10) 0) (i % 10)
-sideBit l d i East = bitAt (getD l (d * 12 + i / 10 + 1) 0 / 2) (i % 10)
-sideBit l d i South = bitAt (getD l (d * 12 + i / 10 + 2) 0) (i % 10)
-sideBit l d i West = bitAt (getD l (d * 12 + i / 10 + 1) 0 * 2) (i % 10)
+sideBit l d i = sides (wordAt l d (i / 50)) (spot i) (pick (ltb i 50) 0 (bitAt (wordAt l d 0 / 2 ^ 44) (spot i))) (pick (ltb i 50) (bitAt (wordAt l d 1 * 2 ^ 44) (spot i)) 0)
 
-place : (l : List ℕ) {a b x y : ℕ} → a ≡ b → x ≡ y → bitAt (getD l a 0) x ≡ bitAt (getD l b 0) y
-place l p q = ap₂ (λ (n k : ℕ). bitAt (getD l n 0) k) p q
+module _ (l : List ℕ) (d i : ℕ) (out : (h k : ℕ) → h < 2 → Out k → bitAt (wordAt l d h) k ≡ 0) (low : i < 100) where
+  place : {a b x y : ℕ} → a ≡ b → x ≡ y → bitAt (wordAt l d a) x ≡ bitAt (wordAt l d b) y
+  place p q = ap₂ (λ (h k : ℕ). bitAt (wordAt l d h) k) p q
 
-module _ (l : List ℕ) (d i : ℕ) (guarded : Guarded l) (small : getD l (d * 12 + i / 10 + 1) 0 < 1024) (low : i < 100) where
-  -- it is the bit of the cell beside, where there is one
+  -- a word shifted to the left, where it has a bit, and where it has none
+  up : (h s k : ℕ) {j : ℕ} → j ≡ s + k → bitAt (wordAt l d h * 2 ^ s) j ≡ bitAt (wordAt l d h) k
+  up h s k e = ap (λ (j : ℕ). bitAt (wordAt l d h * 2 ^ s) j) e ∙ up-bit (wordAt l d h) s k
+
+  -- a word shifted to the right
+  down : (h s k : ℕ) {j : ℕ} → s + k ≡ j → bitAt (wordAt l d h / 2 ^ s) k ≡ bitAt (wordAt l d h) j
+  down h s k e = down-bit (wordAt l d h) s k ∙ ap (λ (m : ℕ). bitAt (wordAt l d h) m) e
+
+  north-there : 10 ≤ i → sideBit l d i North ≡ cellBit l d (i - 10)
+  north-there b = go (below-or i 50) (below-or i 60)
+    where
+      same : 10 ≤ i % 50 → (i - 10) / 50 ≡ i / 50 → bitAt (wordAt l d (i / 50) * 2 ^ 11) (spot i) ≡ cellBit l d (i - 10)
+      same h e = up (i / 50) 11 (spot (i - 10)) (spot-row i h) ∙ place (sym e) refl
+
+      past : (b : ℕ) {a : ℕ} → a ≡ 11 + b → 55 ≤ 44 + a
+      past b e = omega arith
+
+      go : (i < 50) ⊎ (50 ≤ i) → (i < 60) ⊎ (60 ≤ i) → sideBit l d i North ≡ cellBit l d (i - 10)
+      go (inl a) c = rw (lt-ltb i 50 a) (add-zero (bitAt (wordAt l d (i / 50) * 2 ^ 11) (spot i)) ∙ same (omega arith) (omega arith))
+      go (inr a) (inl c) =
+          let first : bitAt (wordAt l d (i / 50) * 2 ^ 11) (spot i) ≡ 0 = up-low (wordAt l d (i / 50)) 11 (spot i) (omega arith) in
+          let half : 0 ≡ (i - 10) / 50 = omega arith in
+          rw (le-ltb i 50 a, first) (zero-add (bitAt (wordAt l d 0 / 2 ^ 44) (spot i)) ∙ down 0 44 (spot i) (spot-half i a c) ∙ place half refl)
+      go (inr a) (inr c) =
+          let high : 55 ≤ 44 + spot i = past (spot (i - 10)) (spot-row i (omega arith)) in
+          let second : bitAt (wordAt l d 0 / 2 ^ 44) (spot i) ≡ 0 = down 0 44 (spot i) refl ∙ out 0 (44 + spot i) (omega arith) (inr high) in
+          rw (le-ltb i 50 a, second) (add-zero (bitAt (wordAt l d (i / 50) * 2 ^ 11) (spot i)) ∙ same (omega arith) (omega arith))
+
+  north-none : i < 10 → sideBit l d i North ≡ 0
+  north-none b = rw (lt-ltb i 50 (omega arith), up-low (wordAt l d (i / 50)) 11 (spot i) (omega arith)) refl
+
+  south-there : i < 90 → sideBit l d i South ≡ cellBit l d (i + 10)
+  south-there b = go (below-or i 40) (below-or i 50)
+    where
+      back : i + 10 - 10 ≡ i
+      back = omega arith
+
+      same : 10 ≤ (i + 10) % 50 → i / 50 ≡ (i + 10) / 50 → bitAt (wordAt l d (i / 50) / 2 ^ 11) (spot i) ≡ cellBit l d (i + 10)
+      same h e = down (i / 50) 11 (spot i) (sym (spot-row (i + 10) h ∙ ap (λ (k : ℕ). 11 + spot k) back)) ∙ place e refl
+
+      go : (i < 40) ⊎ (40 ≤ i) → (i < 50) ⊎ (50 ≤ i) → sideBit l d i South ≡ cellBit l d (i + 10)
+      go (inl a) c =
+          let second : bitAt (wordAt l d 1 * 2 ^ 44) (spot i) ≡ 0 = up-low (wordAt l d 1) 44 (spot i) (omega arith) in
+          rw (lt-ltb i 50 (omega arith), second) (add-zero (bitAt (wordAt l d (i / 50) / 2 ^ 11) (spot i)) ∙ same (omega arith) (omega arith))
+      go (inr a) (inl c) =
+          let first : bitAt (wordAt l d (i / 50) / 2 ^ 11) (spot i) ≡ 0 = down (i / 50) 11 (spot i) refl ∙ out (i / 50) (11 + spot i) (omega arith) (inr (omega arith)) in
+          let half : 1 ≡ (i + 10) / 50 = omega arith in
+          let at : spot i ≡ 44 + spot (i + 10) = sym (spot-half (i + 10) (omega arith) (omega arith) ∙ ap spot back) in
+          rw (lt-ltb i 50 c, first) (zero-add (bitAt (wordAt l d 1 * 2 ^ 44) (spot i)) ∙ up 1 44 (spot (i + 10)) at ∙ place half refl)
+      go (inr a) (inr c) = rw (le-ltb i 50 c) (add-zero (bitAt (wordAt l d (i / 50) / 2 ^ 11) (spot i)) ∙ same (omega arith) (omega arith))
+
+  south-none : 90 ≤ i → sideBit l d i South ≡ 0
+  south-none b =
+      let first : bitAt (wordAt l d (i / 50) / 2 ^ 11) (spot i) ≡ 0 = down (i / 50) 11 (spot i) refl ∙ out (i / 50) (11 + spot i) (omega arith) (inr (omega arith)) in
+      rw (le-ltb i 50 (omega arith), first) refl
+
+  west-there : 0 < i % 10 → sideBit l d i West ≡ cellBit l d (i - 1)
+  west-there b =
+      let on : i - 1 + 1 ≡ i = omega arith in
+      let half : i / 50 ≡ (i - 1) / 50 = omega arith in
+      up (i / 50) 1 (spot (i - 1)) (sym (spot-next (i - 1) (omega arith) ∙ ap spot on)) ∙ place half refl
+
+  west-none : i % 10 ≡ 0 → sideBit l d i West ≡ 0
+  west-none e = go (below-or 0 (spot i))
+    where
+      go : (0 < spot i) ⊎ (spot i ≤ 0) → sideBit l d i West ≡ 0
+      go (inl a) = let at : spot i ≡ 1 + (spot i - 1) = omega arith in up (i / 50) 1 (spot i - 1) at ∙ out (i / 50) (spot i - 1) (omega arith) (inl (spot-first i e a))
+      go (inr a) = up-low (wordAt l d (i / 50)) 1 (spot i) (omega arith)
+
+  east-there : i % 10 < 9 → sideBit l d i East ≡ cellBit l d (i + 1)
+  east-there b = let half : i / 50 ≡ (i + 1) / 50 = omega arith in down (i / 50) 1 (spot i) (spot-next i b) ∙ place half refl
+
+  east-none : 9 ≤ i % 10 → sideBit l d i East ≡ 0
+  east-none b = down (i / 50) 1 (spot i) refl ∙ out (i / 50) (1 + spot i) (omega arith) (inl (spot-last i b))
+
+  -- the bit of the cell beside, where there is one
   side-there : (side : Side) → beside i side < 100 → sideBit l d i side ≡ cellBit l d (beside i side)
   unfolding beside
   side-there North h = go (leb 10 i) refl h
     where
       go : (t : Bool) → leb 10 i ≡ t → pick t (i - 10) 100 < 100 → sideBit l d i North ≡ cellBit l d (pick t (i - 10) 100)
-      go true e q = let b : 10 ≤ i = leb-true 10 i e in place l (omega arith) (omega arith)
+      go true e q = north-there (leb-true 10 i e)
       go false e q = absurd (omega arith)
   side-there East h = go (ltb (i % 10) 9) refl h
     where
       go : (t : Bool) → ltb (i % 10) 9 ≡ t → pick t (i + 1) 100 < 100 → sideBit l d i East ≡ cellBit l d (pick t (i + 1) 100)
-      go true e q = let b : i % 10 < 9 = ltb-true (i % 10) 9 e in right-bit (getD l (d * 12 + i / 10 + 1) 0) (i % 10) ∙ place l (omega arith) (omega arith)
+      go true e q = east-there (ltb-true (i % 10) 9 e)
       go false e q = absurd (omega arith)
   side-there South h = go (ltb i 90) refl h
     where
       go : (t : Bool) → ltb i 90 ≡ t → pick t (i + 10) 100 < 100 → sideBit l d i South ≡ cellBit l d (pick t (i + 10) 100)
-      go true e q = let b : i < 90 = ltb-true i 90 e in place l (omega arith) (omega arith)
+      go true e q = south-there (ltb-true i 90 e)
       go false e q = absurd (omega arith)
   side-there West h = go (ltb 0 (i % 10)) refl h
     where
       go : (t : Bool) → ltb 0 (i % 10) ≡ t → pick t (i - 1) 100 < 100 → sideBit l d i West ≡ cellBit l d (pick t (i - 1) 100)
-      go true e q =
-          let b : 0 < i % 10 = ltb-true 0 (i % 10) e in
-          let x : i % 10 ≡ suc ((i - 1) % 10) = omega arith in
-          ap (λ (k : ℕ). bitAt (getD l (d * 12 + i / 10 + 1) 0 * 2) k) x ∙ left-bit (getD l (d * 12 + i / 10 + 1) 0) ((i - 1) % 10) ∙ place l (omega arith) refl
+      go true e q = west-there (ltb-true 0 (i % 10) e)
       go false e q = absurd (omega arith)
 
   -- and else 0
@@ -151,198 +280,232 @@ module _ (l : List ℕ) (d i : ℕ) (guarded : Guarded l) (small : getD l (d * 1
     where
       go : (t : Bool) → leb 10 i ≡ t → 100 ≤ pick t (i - 10) 100 → sideBit l d i North ≡ 0
       go true e q = absurd (omega arith)
-      go false e q =
-          let b : i < 10 = leb-false 10 i e in
-          let at : d * 12 + i / 10 ≡ d * 12 = omega arith in
-          place l at refl ∙ ap (λ (n : ℕ). bitAt n (i % 10)) (guarded .first-row d) ∙ none-bit (i % 10)
+      go false e q = north-none (leb-false 10 i e)
   side-none East h = go (ltb (i % 10) 9) refl h
     where
       go : (t : Bool) → ltb (i % 10) 9 ≡ t → 100 ≤ pick t (i + 1) 100 → sideBit l d i East ≡ 0
       go true e q = absurd (omega (arith, ltb-true (i % 10) 9 e))
-      go false e q =
-          let x : suc (i % 10) ≡ 10 = omega (arith, ltb-false (i % 10) 9 e) in
-          right-bit (getD l (d * 12 + i / 10 + 1) 0) (i % 10) ∙ ap (λ (k : ℕ). bitAt (getD l (d * 12 + i / 10 + 1) 0) k) x ∙ omega arith
+      go false e q = east-none (ltb-false (i % 10) 9 e)
   side-none South h = go (ltb i 90) refl h
     where
       go : (t : Bool) → ltb i 90 ≡ t → 100 ≤ pick t (i + 10) 100 → sideBit l d i South ≡ 0
       go true e q = absurd (omega (arith, ltb-true i 90 e))
-      go false e q =
-          let b : 90 ≤ i = ltb-false i 90 e in
-          let at : d * 12 + i / 10 + 2 ≡ d * 12 + 11 = omega arith in
-          place l at refl ∙ ap (λ (n : ℕ). bitAt n (i % 10)) (guarded .last-row d) ∙ none-bit (i % 10)
+      go false e q = south-none (ltb-false i 90 e)
   side-none West h = go (ltb 0 (i % 10)) refl h
     where
       go : (t : Bool) → ltb 0 (i % 10) ≡ t → 100 ≤ pick t (i - 1) 100 → sideBit l d i West ≡ 0
       go true e q = absurd (omega (arith, ltb-true 0 (i % 10) e))
-      go false e q =
-          let x : i % 10 ≡ 0 = omega (arith, ltb-false 0 (i % 10) e) in
-          ap (λ (k : ℕ). bitAt (getD l (d * 12 + i / 10 + 1) 0 * 2) k) x ∙ omega arith
+      go false e q = west-none (omega (arith, ltb-false 0 (i % 10) e))
 
--- bit k of a grown row n: the open cells that are in the row or in one beside it
-record GrownBit (n cells above row below k : ℕ) : Type 0 where
+-- bit k of a grown word n: the open cells that are in the word or in one beside it
+record GrownBit (n cells word across k : ℕ) : Type 0 where
   only : bitAt n k ≤ bitAt cells k
-  some : bitAt n k ≤ bitAt row k + bitAt (row * 2) k + bitAt (row / 2) k + bitAt above k + bitAt below k
-  own : bitAt row k + bitAt cells k ≤ bitAt n k + 1
-  west : bitAt (row * 2) k + bitAt cells k ≤ bitAt n k + 1
-  east : bitAt (row / 2) k + bitAt cells k ≤ bitAt n k + 1
-  north : bitAt above k + bitAt cells k ≤ bitAt n k + 1
-  south : bitAt below k + bitAt cells k ≤ bitAt n k + 1
+  some : bitAt n k ≤ bitAt word k + bitAt (word * 2 ^ 1) k + bitAt (word / 2 ^ 1) k + bitAt (word * 2 ^ 11) k + bitAt (word / 2 ^ 11) k + bitAt across k
+  own : bitAt word k + bitAt cells k ≤ bitAt n k + 1
+  west : bitAt (word * 2 ^ 1) k + bitAt cells k ≤ bitAt n k + 1
+  east : bitAt (word / 2 ^ 1) k + bitAt cells k ≤ bitAt n k + 1
+  north : bitAt (word * 2 ^ 11) k + bitAt cells k ≤ bitAt n k + 1
+  south : bitAt (word / 2 ^ 11) k + bitAt cells k ≤ bitAt n k + 1
+  beyond : bitAt across k + bitAt cells k ≤ bitAt n k + 1
 
-grown-bit : (cells above row below k : ℕ) → row < 1024 → GrownBit (grownRow cells above row below) cells above row below k
-unfolding grownRow
-grown-bit cells above row below k small =
-    let fits : row * 2 % 65536 ≡ row * 2 = omega arith in
-    let a : ℕ = bitOr row (row * 2) in
-    let b : ℕ = bitOr a (row / 2) in
-    let c : ℕ = bitOr b above in
-    let o₁ = or-bit row (row * 2) k in
-    let o₂ = or-bit a (row / 2) k in
-    let o₃ = or-bit b above k in
-    let o₄ = or-bit c below k in
-    let n = and-bit (bitOr c below) cells k in
-    rw fits (record {
+grown-bit : (cells word across k : ℕ) → k < 64 → GrownBit (grownWord cells word across) cells word across k
+unfolding grownWord
+grown-bit cells word across k h =
+    let a : ℕ = bitOr word (word * 2 ^ 1 % 2 ^ 64) in
+    let b : ℕ = bitOr a (word / 2 ^ 1) in
+    let c : ℕ = bitOr b (word * 2 ^ 11 % 2 ^ 64) in
+    let e : ℕ = bitOr c (word / 2 ^ 11) in
+    let o₁ = or-bit word (word * 2 ^ 1 % 2 ^ 64) k in
+    let o₂ = or-bit a (word / 2 ^ 1) k in
+    let o₃ = or-bit b (word * 2 ^ 11 % 2 ^ 64) k in
+    let o₄ = or-bit c (word / 2 ^ 11) k in
+    let o₅ = or-bit e across k in
+    let n = and-bit (bitOr e across) cells k in
+    let one = cut-bit (word * 2 ^ 1) k h in
+    let row = cut-bit (word * 2 ^ 11) k h in
+    record {
       only = n .right;
-      some = omega (arith, n .left, o₁ .either, o₂ .either, o₃ .either, o₄ .either);
-      own = omega (arith, n .both, o₁ .left, o₂ .left, o₃ .left, o₄ .left);
-      west = omega (arith, n .both, o₁ .right, o₂ .left, o₃ .left, o₄ .left);
-      east = omega (arith, n .both, o₂ .right, o₃ .left, o₄ .left);
-      north = omega (arith, n .both, o₃ .right, o₄ .left);
-      south = omega (arith, n .both, o₄ .right);
-    })
+      some = omega (arith, n .left, o₁ .either, o₂ .either, o₃ .either, o₄ .either, o₅ .either, one, row);
+      own = omega (arith, n .both, o₁ .left, o₂ .left, o₃ .left, o₄ .left, o₅ .left);
+      west = omega (arith, n .both, o₁ .right, o₂ .left, o₃ .left, o₄ .left, o₅ .left, one);
+      east = omega (arith, n .both, o₂ .right, o₃ .left, o₄ .left, o₅ .left);
+      north = omega (arith, n .both, o₃ .right, o₄ .left, o₅ .left, row);
+      south = omega (arith, n .both, o₄ .right, o₅ .left);
+      beyond = omega (arith, n .both, o₅ .right);
+    }
 
--- the bit of an open cell in the rows of open cells
-module _ (costs : List ℕ) (i : ℕ) (low : i < 100) {rows : List ℕ} (given : rows ≡ openRows costs) where
-  row-is : getD rows (i / 10) 0 ≡ openRow costs (i / 10)
-  unfolding openRows
-  row-is = table-at (openRow costs) 10 given (i / 10) 0 (omega arith)
+grown-only : (cells word across k : ℕ) → bitAt (grownWord cells word across) k ≤ bitAt cells k
+unfolding grownWord
+grown-only cells word across k = and-bit (bitOr (bitOr (bitOr (bitOr (bitOr word (word * 2 % 2 ^ 64)) (word / 2)) (word * 2 ^ 11 % 2 ^ 64)) (word / 2 ^ 11)) across) cells k .right
 
-  cell-open : isOpen (getD rows (i / 10) 0) (i % 10) ≡ openAt costs i
-  unfolding openRow
-  cell-open =
-      let at : i / 10 * 10 + i % 10 ≡ i = omega arith in
-      ap (λ (n : ℕ). isOpen n (i % 10)) row-is ∙ bits-open (λ x. openAt costs (i / 10 * 10 + x)) 10 (i % 10) (omega arith) ∙ ap (openAt costs) at
+-- the same by side: bit n of a cell, by that of the open cells, its own and those of the sides
+record NextBit (n cell own : ℕ) (side : Side → ℕ) : Type 0 where
+  only : n ≤ cell
+  some : n ≤ own + side North + side East + side South + side West
+  kept : own + cell ≤ n + 1
+  gained : (s : Side) → side s ≡ 1 → cell ≤ n
 
-  open-yes : openAt costs i ≡ true → bitAt (getD rows (i / 10) 0) (i % 10) ≡ 1
-  unfolding isOpen
-  open-yes o = eqb-true (bitAt (getD rows (i / 10) 0) (i % 10)) 1 (cell-open ∙ o)
+by-side : {n cells word across k : ℕ} (above below : ℕ) → GrownBit n cells word across k → bitAt across k ≡ above + below → NextBit (bitAt n k) (bitAt cells k) (bitAt word k) (sides word k above below)
+by-side {n} {cells} {word} {across} {k} above below b e = record { only = b .only; some = omega (arith, b .some); kept = b .own; gained = gains }
+  where
+    gains : (s : Side) → sides word k above below s ≡ 1 → bitAt cells k ≤ bitAt n k
+    gains North q = omega (arith, b .north, b .beyond)
+    gains East q = omega (arith, b .east)
+    gains South q = omega (arith, b .south, b .beyond)
+    gains West q = omega (arith, b .west)
 
-  open-no : openAt costs i ≡ false → bitAt (getD rows (i / 10) 0) (i % 10) ≡ 0
-  unfolding isOpen
-  open-no o = let n = eqb-false (bitAt (getD rows (i / 10) 0) (i % 10)) 1 (cell-open ∙ o) in bit-off (getD rows (i / 10) 0 / 2 ^ (i % 10)) n
-    where
-      bit-off : (n : ℕ) → (n % 2 ≡ 1 → ⊥) → n % 2 ≡ 0
-      bit-off n h = go (below-or (n % 2) 1)
-        where
-          go : (n % 2 < 1) ⊎ (1 ≤ n % 2) → n % 2 ≡ 0
-          go (inl a) = omega arith
-          go (inr a) = absurd (h (omega arith))
+-- ---- as `open_word` and `grow` make them
+pub packed-none : (row : ℕ → ℕ) → 0 ≡ packed row 0
+unfolding packed
+packed-none row = refl
 
-row-small : (costs : List ℕ) (y : ℕ) → y < 10 → {rows : List ℕ} → rows ≡ openRows costs → getD rows y 0 < 1024
-unfolding openRows openRow
-row-small costs y l given = rw (table-at (openRow costs) 10 given y 0 l) (bits-small (λ x. openAt costs (y * 10 + x)) 10)
+pub packed-more : (row : ℕ → ℕ) (y : ℕ) {word r : ℕ} → word ≡ packed row y → r ≡ row y → row y < 1024 → y < 5 → bitOr word (r * 2 ^ (y * 11) % 2 ^ 64) ≡ packed row (y + 1)
+unfolding packed
+packed-more row y e f small l = rw (add-one y, e, f, shl-exact 10 (y * 11) 64 small (omega arith)) refl
+
+pub grown-is : (words l₀ : List ℕ) (d : ℕ) {a b : ℕ} → d * 2 + 3 < length l₀ → a ≡ grownWord (getD words 0 0) (getD l₀ (d * 2) 0) (getD l₀ (d * 2 + 1) 0 * 2 ^ 44 % 2 ^ 64) → b ≡ grownWord (getD words 1 0) (getD l₀ (d * 2 + 1) 0) (getD l₀ (d * 2) 0 / 2 ^ 44)
+    → Grown words d l₀ (set (set l₀ (d * 2 + 2) a) (d * 2 + 3) b) (bitOr (bitXor a (getD l₀ (d * 2) 0)) (bitXor b (getD l₀ (d * 2 + 1) 0)))
+grown-is words l₀ d {a} {b} h e f = record {
+  long = length-set (set l₀ (d * 2 + 2) a) (d * 2 + 3) b ∙ length-set l₀ (d * 2 + 2) a;
+  before = λ k m. getD-set-other (set l₀ (d * 2 + 2) a) (d * 2 + 3) k b 0 (λ q. omega arith) ∙ getD-set-other l₀ (d * 2 + 2) k a 0 (λ q. omega arith);
+  upper = first ∙ e ∙ ap (λ (k : ℕ). grownWord (getD words 0 0) (getD l₀ k 0) (getD l₀ (d * 2 + 1) 0 * 2 ^ 44 % 2 ^ 64)) (sym (add-zero (d * 2)));
+  lower = second ∙ f ∙ ap (λ (k : ℕ). grownWord (getD words 1 0) (getD l₀ (d * 2 + 1) 0) (getD l₀ k 0 / 2 ^ 44)) (sym (add-zero (d * 2)));
+  still = λ z k m. kept (or-none (bitXor a (getD l₀ (d * 2) 0)) (bitXor b (getD l₀ (d * 2 + 1) 0)) z) k m (below-or k 1);
+}
+  where
+    l : List ℕ
+    l = set (set l₀ (d * 2 + 2) a) (d * 2 + 3) b
+
+    first : wordAt l (d + 1) 0 ≡ a
+    first =
+        let at : (d + 1) * 2 + 0 ≡ d * 2 + 2 = omega arith in
+        ap (λ (k : ℕ). getD l k 0) at ∙ getD-set-other (set l₀ (d * 2 + 2) a) (d * 2 + 3) (d * 2 + 2) b 0 (λ q. omega arith) ∙ getD-set-same l₀ (d * 2 + 2) a 0 (omega arith)
+
+    second : wordAt l (d + 1) 1 ≡ b
+    second =
+        let at : (d + 1) * 2 + 1 ≡ d * 2 + 3 = omega arith in
+        ap (λ (k : ℕ). getD l k 0) at ∙ getD-set-same (set l₀ (d * 2 + 2) a) (d * 2 + 3) b 0 (omega (arith, length-set l₀ (d * 2 + 2) a))
+
+    kept : (bitXor a (getD l₀ (d * 2) 0) ≡ 0) × (bitXor b (getD l₀ (d * 2 + 1) 0) ≡ 0) → (k : ℕ) → k < 2 → (k < 1) ⊎ (1 ≤ k) → wordAt l (d + 1) k ≡ wordAt l₀ d k
+    kept z k m (inl q) =
+        let n : k ≡ 0 = omega arith in
+        rw n (first ∙ xor-none a (getD l₀ (d * 2) 0) (z .0) ∙ ap (λ (j : ℕ). getD l₀ j 0) (sym (add-zero (d * 2))))
+    kept z k m (inr q) = let n : k ≡ 1 = omega arith in rw n (second ∙ xor-none b (getD l₀ (d * 2 + 1) 0) (z .1))
 
 -- ---- levels
 -- level d has exactly the cells with at most d moves
 pub record Level (far : ℕ → ℕ) (l : List ℕ) (d : ℕ) : Type 0 where
-  pub small : (y : ℕ) → y < 10 → getD l (d * 12 + y + 1) 0 < 1024
+  pub out : (h k : ℕ) → h < 2 → Out k → bitAt (wordAt l d h) k ≡ 0
   pub yes : (i : ℕ) → i < 100 → far i ≤ d → cellBit l d i ≡ 1
   pub no : (i : ℕ) → i < 100 → d < far i → cellBit l d i ≡ 0
 
 pub record Levels (far : ℕ → ℕ) (l : List ℕ) (n : ℕ) : Type 0 where
-  pub guarded : Guarded l
+  pub long : length l ≡ 202
   pub each : (d : ℕ) → d < n → Level far l d
 
-level-kept : {far : ℕ → ℕ} {l₀ l : List ℕ} {d : ℕ} → Level far l₀ d → ((k : ℕ) → k < d * 12 + 11 → getD l k 0 ≡ getD l₀ k 0) → Level far l d
+level-kept : {far : ℕ → ℕ} {l₀ l : List ℕ} {d : ℕ} → Level far l₀ d → ((k : ℕ) → k < d * 2 + 2 → getD l k 0 ≡ getD l₀ k 0) → Level far l d
 level-kept {far} {l₀} {l} {d} v kept = record {
-  small = λ y h. rw (kept (d * 12 + y + 1) (omega arith)) (v .small y h);
+  out = λ h k m o. ap (λ (n : ℕ). bitAt n k) (kept (d * 2 + h) (omega arith)) ∙ v .out h k m o;
   yes = λ i h m. same i h ∙ v .yes i h m;
   no = λ i h m. same i h ∙ v .no i h m;
 }
   where
     same : (i : ℕ) → i < 100 → cellBit l d i ≡ cellBit l₀ d i
-    same i h = ap (λ (n : ℕ). bitAt n (i % 10)) (kept (d * 12 + i / 10 + 1) (omega arith))
+    same i h = ap (λ (n : ℕ). bitAt n (spot i)) (kept (d * 2 + i / 50) (omega arith))
 
 -- ---- the first level
-module _ (costs : List ℕ) (from : ℕ) (low : from < 100) {l₀ l : List ℕ} (r : Rowed (firstRow from) 1 10 l₀ l) where
-  first-row : (y : ℕ) → y < 10 → getD l (0 * 12 + y + 1) 0 ≡ firstRow from y
-  first-row y h = let at : 0 * 12 + y + 1 ≡ 1 + y = omega arith in ap (λ (k : ℕ). getD l k 0) at ∙ r .at y h
-
-  first-small : (y : ℕ) → firstRow from y < 1024
-  unfolding firstRow
-  first-small y = go (eqb y (from / 10))
+module _ (costs : List ℕ) (from : ℕ) (low : from < 100) (l₀ : List ℕ) {l : List ℕ} (long : length l₀ ≡ 202) (is : l ≡ set (set l₀ 0 (firstWord from 0)) 1 (firstWord from 1)) where
+  first-at : (h : ℕ) → h < 2 → getD l (0 * 2 + h) 0 ≡ firstWord from h
+  first-at h m = go (below-or h 1)
     where
-      go : (t : Bool) → pick t (2 ^ (from % 10)) 0 < 1024
-      go true = pow-lt {i = from % 10} {j = 10} (omega arith)
-      go false = omega arith
+      go : (h < 1) ⊎ (1 ≤ h) → getD l (0 * 2 + h) 0 ≡ firstWord from h
+      go (inl a) =
+          let z : h ≡ 0 = omega arith in
+          rw (is, z) (getD-set-other (set l₀ 0 (firstWord from 0)) 1 0 (firstWord from 1) 0 (λ q. omega arith) ∙ getD-set-same l₀ 0 (firstWord from 0) 0 (omega arith))
+      go (inr a) =
+          let z : h ≡ 1 = omega arith in
+          rw (is, z) (getD-set-same (set l₀ 0 (firstWord from 0)) 1 (firstWord from 1) 0 (omega (arith, length-set l₀ 0 (firstWord from 0))))
 
-  first-own : bitAt (firstRow from (from / 10)) (from % 10) ≡ 1
-  unfolding firstRow
-  first-own = rw (eq-eqb (from / 10) (from / 10) refl) (own-bit (from % 10))
+  first-own : bitAt (firstWord from (from / 50)) (spot from) ≡ 1
+  unfolding firstWord
+  first-own = rw (eq-eqb (from / 50) (from / 50) refl) (own-bit (spot from))
 
-  first-other : (i : ℕ) → (i ≡ from → ⊥) → bitAt (firstRow from (i / 10)) (i % 10) ≡ 0
-  unfolding firstRow
-  first-other i n = go (eqb (i / 10) (from / 10)) refl
+  first-other : (h k : ℕ) → (h ≡ from / 50 → k ≡ spot from → ⊥) → bitAt (firstWord from h) k ≡ 0
+  unfolding firstWord
+  first-other h k n = go (eqb h (from / 50)) refl
     where
-      go : (t : Bool) → eqb (i / 10) (from / 10) ≡ t → bitAt (pick t (2 ^ (from % 10)) 0) (i % 10) ≡ 0
-      go true e = let same : i / 10 ≡ from / 10 = eqb-true (i / 10) (from / 10) e in other-bit (from % 10) (i % 10) (λ q. n (omega arith))
-      go false e = none-bit (i % 10)
+      go : (t : Bool) → eqb h (from / 50) ≡ t → bitAt (pick t (2 ^ spot from) 0) k ≡ 0
+      go true e = other-bit (spot from) k (λ q. n (eqb-true h (from / 50) e) (sym q))
+      go false e = none-bit k
 
   level-first : Level (far costs from) l 0
   level-first = record {
-    small = λ y h. rw (first-row y h) (first-small y);
-    yes = λ i h m. let z : i ≡ from = far-none costs from low i h (omega arith) in bit-is i h ∙ ap (λ (k : ℕ). bitAt (firstRow from (k / 10)) (k % 10)) z ∙ first-own;
-    no = λ i h m. bit-is i h ∙ first-other i (λ z. omega (arith, far-start costs from low, ap (λ (k : ℕ). far costs from k) z));
+    out = λ h k m o. ap (λ (n : ℕ). bitAt n k) (first-at h m) ∙ first-other h k (λ a e. away k o e);
+    yes = λ i h m. let z : i ≡ from = far-none costs from low i h (omega arith) in bit-is i h ∙ ap (λ (k : ℕ). bitAt (firstWord from (k / 50)) (spot k)) z ∙ first-own;
+    no = λ i h m. bit-is i h ∙ first-other (i / 50) (spot i) (λ a e. omega (arith, far-start costs from low, ap (λ (k : ℕ). far costs from k) (one-spot i from a e)));
   }
     where
-      bit-is : (i : ℕ) → i < 100 → cellBit l 0 i ≡ bitAt (firstRow from (i / 10)) (i % 10)
-      bit-is i h = ap (λ (n : ℕ). bitAt n (i % 10)) (first-row (i / 10) (omega arith))
+      bit-is : (i : ℕ) → i < 100 → cellBit l 0 i ≡ bitAt (firstWord from (i / 50)) (spot i)
+      bit-is i h = ap (λ (n : ℕ). bitAt n (spot i)) (first-at (i / 50) (omega arith))
 
-  pub levels-first : Guarded l₀ → Levels (far costs from) l 1
-  levels-first g = record { guarded = guarded-rows 0 g r refl; each = λ d h. let z : d ≡ 0 = omega arith in rw z level-first }
+      away : (k : ℕ) → Out k → k ≡ spot from → ⊥
+      away k o e = off (from % 50 / 10) (from % 10) (omega arith) (omega arith) o e
+        where
+          off : (y x : ℕ) → y < 5 → x < 10 → Out k → k ≡ y * 11 + x → ⊥
+          off y x a b (inl c) e = omega arith
+          off y x a b (inr c) e = omega arith
+
+  pub levels-first : Levels (far costs from) l 1
+  levels-first = record {
+    long = ap length is ∙ length-set (set l₀ 0 (firstWord from 0)) 1 (firstWord from 1) ∙ length-set l₀ 0 (firstWord from 0) ∙ long;
+    each = λ d h. let z : d ≡ 0 = omega arith in rw z level-first;
+  }
 
 -- ---- the next level
-module _ (costs : List ℕ) (from : ℕ) (low : from < 100) (start : openAt costs from ≡ true) {rows : List ℕ} (given : rows ≡ openRows costs) {l₀ l : List ℕ} {d : ℕ} (few : d < 100) (r : Rowed (grownAt rows l₀ d) (d * 12 + 13) 10 l₀ l) (all : Levels (far costs from) l₀ (d + 1)) where
+module _ (costs : List ℕ) (from : ℕ) (low : from < 100) (start : openAt costs from ≡ true) {words : List ℕ} (given : words ≡ openWords costs) {l₀ l : List ℕ} {d change : ℕ} (few : d < 100) (g : Grown words d l₀ l change) (all : Levels (far costs from) l₀ (d + 1)) where
   level : Level (far costs from) l₀ d
   level = all .each d (omega arith)
 
   module _ (i : ℕ) (inside : i < 100) where
-    next-bit : cellBit l (d + 1) i ≡ bitAt (grownAt rows l₀ d (i / 10)) (i % 10)
-    next-bit =
-        let at : (d + 1) * 12 + i / 10 + 1 ≡ d * 12 + 13 + i / 10 = omega arith in
-        ap (λ (n : ℕ). bitAt n (i % 10)) (ap (λ (k : ℕ). getD l k 0) at ∙ r .at (i / 10) (omega arith))
+    next : NextBit (cellBit l (d + 1) i) (bitAt (getD words (i / 50) 0) (spot i)) (cellBit l₀ d i) (sideBit l₀ d i)
+    next = go (below-or i 50)
+      where
+        fits : spot i < 64
+        fits = omega arith
 
-    row-low : getD l₀ (d * 12 + i / 10 + 1) 0 < 1024
-    row-low = level .small (i / 10) (omega arith)
-
-    grown : GrownBit (grownAt rows l₀ d (i / 10)) (getD rows (i / 10) 0) (getD l₀ (d * 12 + i / 10) 0) (getD l₀ (d * 12 + i / 10 + 1) 0) (getD l₀ (d * 12 + i / 10 + 2) 0) (i % 10)
-    grown = grown-bit (getD rows (i / 10) 0) (getD l₀ (d * 12 + i / 10) 0) (getD l₀ (d * 12 + i / 10 + 1) 0) (getD l₀ (d * 12 + i / 10 + 2) 0) (i % 10) row-low
-
-    grown-side : (side : Side) → sideBit l₀ d i side + bitAt (getD rows (i / 10) 0) (i % 10) ≤ bitAt (grownAt rows l₀ d (i / 10)) (i % 10) + 1
-    grown-side North = grown .north
-    grown-side East = grown .east
-    grown-side South = grown .south
-    grown-side West = grown .west
+        go : (i < 50) ⊎ (50 ≤ i) → NextBit (cellBit l (d + 1) i) (bitAt (getD words (i / 50) 0) (spot i)) (cellBit l₀ d i) (sideBit l₀ d i)
+        go (inl a) =
+            let half : i / 50 ≡ 0 = omega arith in
+            let b = grown-bit (getD words 0 0) (wordAt l₀ d 0) (wordAt l₀ d 1 * 2 ^ 44 % 2 ^ 64) (spot i) fits in
+            rw (half, g .upper, lt-ltb i 50 a) (by-side 0 (bitAt (wordAt l₀ d 1 * 2 ^ 44) (spot i)) b (cut-bit (wordAt l₀ d 1 * 2 ^ 44) (spot i) fits ∙ sym (zero-add (bitAt (wordAt l₀ d 1 * 2 ^ 44) (spot i)))))
+        go (inr a) =
+            let half : i / 50 ≡ 1 = omega arith in
+            let b = grown-bit (getD words 1 0) (wordAt l₀ d 1) (wordAt l₀ d 0 / 2 ^ 44) (spot i) fits in
+            rw (half, g .lower, le-ltb i 50 a) (by-side (bitAt (wordAt l₀ d 0 / 2 ^ 44) (spot i)) 0 b (sym (add-zero (bitAt (wordAt l₀ d 0 / 2 ^ 44) (spot i)))))
 
     -- a cell with at most d + 1 moves
     next-yes : far costs from i ≤ d + 1 → cellBit l (d + 1) i ≡ 1
     next-yes m = go (below-or d (far costs from i))
       where
-        opens : bitAt (getD rows (i / 10) 0) (i % 10) ≡ 1
-        opens = open-yes costs i inside given (far-open costs from low start i inside (omega arith))
+        opens : bitAt (getD words (i / 50) 0) (spot i) ≡ 1
+        opens = open-yes costs given i inside (far-open costs from low start i inside (omega arith))
+
+        bit-one : {n c : ℕ} → n < 2 → c ≡ 1 → c ≤ n → n ≡ 1
+        bit-one a b e = omega arith
 
         go : (d < far costs from i) ⊎ (far costs from i ≤ d) → cellBit l (d + 1) i ≡ 1
-        go (inr h) = omega (arith, next-bit, opens, grown .own, level .yes i inside h)
+        go (inr h) = omega (arith, opens, next .kept, level .yes i inside h)
         go (inl h) =
             let b = far-before costs from low i d inside (omega arith) (omega arith) in
-            omega (arith, next-bit, opens, grown-side (b .side), side-there l₀ d i (all .guarded) row-low inside (b .side) (b .inside), level .yes (beside i (b .side)) (b .inside) (b .near))
+            bit-one (omega arith) opens (next .gained (b .side) (side-there l₀ d i (level .out) inside (b .side) (b .inside) ∙ level .yes (beside i (b .side)) (b .inside) (b .near)))
 
     -- and one with more
     side-off : d + 1 < far costs from i → openAt costs i ≡ true → (side : Side) → sideBit l₀ d i side ≡ 0
     side-off m o side = go (below-or (beside i side) 100)
       where
         go : (beside i side < 100) ⊎ (100 ≤ beside i side) → sideBit l₀ d i side ≡ 0
-        go (inr h) = side-none l₀ d i (all .guarded) row-low inside side h
-        go (inl h) = side-there l₀ d i (all .guarded) row-low inside side h ∙ level .no (beside i side) h (apart (below-or d (far costs from (beside i side))))
+        go (inr h) = side-none l₀ d i (level .out) inside side h
+        go (inl h) = side-there l₀ d i (level .out) inside side h ∙ level .no (beside i side) h (apart (below-or d (far costs from (beside i side))))
           where
             apart : (d < far costs from (beside i side)) ⊎ (far costs from (beside i side) ≤ d) → d < far costs from (beside i side)
             apart (inl n) = n
@@ -351,31 +514,38 @@ module _ (costs : List ℕ) (from : ℕ) (low : from < 100) (start : openAt cost
     next-no : d + 1 < far costs from i → cellBit l (d + 1) i ≡ 0
     next-no m = go (openAt costs i) refl
       where
-        go : (t : Bool) → openAt costs i ≡ t → cellBit l (d + 1) i ≡ 0
-        go false o = omega (arith, next-bit, grown .only, open-no costs i inside given o)
-        go true o = omega (arith, next-bit, grown .some, level .no i inside (omega arith), side-off m o North, side-off m o East, side-off m o South, side-off m o West)
+        none : {n a b c e f : ℕ} → n ≤ a + b + c + e + f → a ≡ 0 → b ≡ 0 → c ≡ 0 → e ≡ 0 → f ≡ 0 → n ≡ 0
+        none h p q r s t = omega arith
 
-  next-small : (y : ℕ) → y < 10 → getD l ((d + 1) * 12 + y + 1) 0 < 1024
-  unfolding grownRow
-  next-small y h =
-      let at : (d + 1) * 12 + y + 1 ≡ d * 12 + 13 + y = omega arith in
-      rw (at, r .at y h) (omega (arith, and-le-r (bitOr (bitOr (bitOr (bitOr (getD l₀ (d * 12 + y + 1) 0) (getD l₀ (d * 12 + y + 1) 0 * 2 % 65536)) (getD l₀ (d * 12 + y + 1) 0 / 2)) (getD l₀ (d * 12 + y) 0)) (getD l₀ (d * 12 + y + 2) 0)) (getD rows y 0), row-small costs y h given))
+        go : (t : Bool) → openAt costs i ≡ t → cellBit l (d + 1) i ≡ 0
+        go false o = omega (arith, next .only, open-no costs given i inside o)
+        go true o = none (next .some) (level .no i inside (omega arith)) (side-off m o North) (side-off m o East) (side-off m o South) (side-off m o West)
+
+  next-out : (h k : ℕ) → h < 2 → Out k → bitAt (wordAt l (d + 1) h) k ≡ 0
+  next-out h k m o = go (below-or h 1)
+    where
+      go : (h < 1) ⊎ (1 ≤ h) → bitAt (wordAt l (d + 1) h) k ≡ 0
+      go (inl a) =
+          let z : h ≡ 0 = omega arith in
+          rw (z, g .upper) (omega (arith, grown-only (getD words 0 0) (wordAt l₀ d 0) (wordAt l₀ d 1 * 2 ^ 44 % 2 ^ 64) k, cells-out costs given 0 k (omega arith) o))
+      go (inr a) =
+          let z : h ≡ 1 = omega arith in
+          rw (z, g .lower) (omega (arith, grown-only (getD words 1 0) (wordAt l₀ d 1) (wordAt l₀ d 0 / 2 ^ 44) k, cells-out costs given 1 k (omega arith) o))
 
   pub levels-more : Levels (far costs from) l (d + 1 + 1)
-  levels-more = record { guarded = guarded-rows (d + 1) (all .guarded) r (omega arith); each = λ e h. go e (below-or e (d + 1)) h }
+  levels-more = record { long = g .long ∙ all .long; each = λ e h. go e (below-or e (d + 1)) h }
     where
       go : (e : ℕ) → (e < d + 1) ⊎ (d + 1 ≤ e) → e < d + 1 + 1 → Level (far costs from) l e
-      go e (inl k) h = level-kept (all .each e k) (λ n m. r .before n (omega arith))
-      go e (inr k) h = let z : e ≡ d + 1 = omega arith in rw z (record { small = next-small; yes = next-yes; no = next-no })
+      go e (inl k) h = level-kept (all .each e k) (λ n m. g .before n (omega arith))
+      go e (inr k) h = let z : e ≡ d + 1 = omega arith in rw z (record { out = next-out; yes = next-yes; no = next-no })
 
   -- where it is level d, no cell has d + 1 moves
-  pub whole-still : ((k : ℕ) → k < 10 → getD l (d * 12 + 13 + k) 0 ≡ getD l₀ (d * 12 + k + 1) 0) → (i : ℕ) → i < 100 → far costs from i < 255 → far costs from i < d + 1
-  whole-still still i h m = let most : far costs from i ≤ d = far-still costs from low d none i h m in omega arith
+  pub whole-still : change ≡ 0 → (i : ℕ) → i < 100 → far costs from i < 255 → far costs from i < d + 1
+  whole-still z i h m = let most : far costs from i ≤ d = far-still costs from low d none i h m in omega arith
     where
       none : (j : ℕ) → j < 100 → far costs from j ≡ d + 1 → ⊥
       none j b e =
-          let at : (d + 1) * 12 + j / 10 + 1 ≡ d * 12 + 13 + j / 10 = omega arith in
-          let same : cellBit l (d + 1) j ≡ cellBit l₀ d j = ap (λ (n : ℕ). bitAt n (j % 10)) (ap (λ (k : ℕ). getD l k 0) at ∙ still (j / 10) (omega arith)) in
+          let same : cellBit l (d + 1) j ≡ cellBit l₀ d j = ap (λ (n : ℕ). bitAt n (spot j)) (g .still z (j / 50) (omega arith)) in
           omega (arith, same, next-yes j b (omega arith), level .no j b (omega arith))
 
 -- ---- what the levels tell
@@ -408,7 +578,7 @@ module _ (costs : List ℕ) (from : ℕ) (low : from < 100) {l : List ℕ} {n : 
   pub told : n ≤ 101 → Spread (moves costs from) l n
   unfolding movesIn
   told few = record {
-    guarded = all .guarded;
+    long = all .long;
     few = few;
     found = ext-getD 0 (tabulate (movesBy l n) 100 0) (moves costs from) (length-tabulate (movesBy l n) 100 0 ∙ sym (moves-long costs from low)) (λ i h. let b : i < 100 = omega (arith, length-tabulate (movesBy l n) 100 0) in tabulate-at (movesBy l n) 100 i 0 b ∙ by-is i b);
   }
@@ -448,13 +618,13 @@ module _ (costs : List ℕ) (from : ℕ) (long : length costs ≡ 100) (low : fr
   pub spread-last : Levels (far costs from) l 101 → Spread (moves costs from) l 101
   spread-last all = told costs from low all (λ i h m. omega (arith, far-few costs from low i h m)) (omega arith)
 
-  module _ (n : getD costs from 0 ≡ 255 → ⊥) {rows : List ℕ} (given : rows ≡ openRows costs) {l₀ : List ℕ} {d change : ℕ} (few : d < 100) (g : Grown rows d 10 l₀ l change) (all : Levels (far costs from) l₀ (d + 1)) where
+  module _ (n : getD costs from 0 ≡ 255 → ⊥) {words : List ℕ} (given : words ≡ openWords costs) {l₀ : List ℕ} {d change : ℕ} (few : d < 100) (g : Grown words d l₀ l change) (all : Levels (far costs from) l₀ (d + 1)) where
     pub spread-more : Levels (far costs from) l (d + 1 + 1)
-    spread-more = levels-more costs from low (start-open costs from (omega arith) n) given few (g .rowed) all
+    spread-more = levels-more costs from low (start-open costs from (omega arith) n) given few g all
 
     -- with a level that is the one before
     pub spread-still : change ≡ 0 → Spread (moves costs from) l (d + 1)
     spread-still z =
-        told costs from low (record { guarded = spread-more .guarded; each = λ e h. spread-more .each e (omega arith) })
-        (whole-still costs from low (start-open costs from (omega arith) n) given few (g .rowed) all (g .still z))
+        told costs from low (record { long = spread-more .long; each = λ e h. spread-more .each e (omega arith) })
+        (whole-still costs from low (start-open costs from (omega arith) n) given few g all z)
         (omega arith)

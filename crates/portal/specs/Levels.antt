@@ -1,4 +1,4 @@
--- A sector's cells as rows of bits, and the levels of a spread of moves: level d has the cells that at most d moves reach.
+-- A sector's cells as two words of bits, and the levels of a spread of moves: level d has the cells that at most d moves reach.
 use Prim.Native.Nat.{ℕ, zero, suc, _+_, _-_, _*_, _/_, _%_, _^_, _≤_, _<_}
 use mathlib.Core.Path.{_≡_}
 use mathlib.Core.List.{List}
@@ -11,49 +11,52 @@ use Rattle.model.specs.Costs.{openAt}
 use Rattle.model.specs.Moves.{apart}
 use Rattle.model.specs.Windows.{bits}
 
+-- ---- a word has five rows of eleven bits: ten cells and a bit that stays 0
+-- the bit of cell i in word i / 50
+abbrev pub spot : ℕ → ℕ
+spot i = i % 50 / 10 * 11 + i % 10
+
+-- n rows in a word
+unfoldable pub packed : (ℕ → ℕ) → ℕ → ℕ
+packed row zero = 0
+packed row (suc n) = bitOr (packed row n) (row n * 2 ^ (n * 11))
+
 -- the open cells of row y, bit x for column x
 unfoldable pub openRow : List ℕ → ℕ → ℕ
 openRow costs y = bits (λ x. openAt costs (y * 10 + x)) 10
 
-unfoldable pub openRows : List ℕ → List ℕ
-openRows costs = tabulate (openRow costs) 10 0
+-- the open cells of half h
+unfoldable pub openWord : List ℕ → ℕ → ℕ
+openWord costs h = packed (λ y. openRow costs (h * 5 + y)) 5
 
--- ---- a level has twelve rows: the ten of the sector between two that stay 0
--- row y of level 0
-unfoldable pub firstRow : ℕ → ℕ → ℕ
-firstRow from y = pick (eqb y (from / 10)) (2 ^ (from % 10)) 0
+unfoldable pub openWords : List ℕ → List ℕ
+openWords costs = tabulate (openWord costs) 2 0
 
--- a row of the next level, by this level's row and those above and below it
-unfoldable pub grownRow : ℕ → ℕ → ℕ → ℕ → ℕ
-grownRow cells above row below = bitAnd (bitOr (bitOr (bitOr (bitOr row (row * 2 % 65536)) (row / 2)) above) below) cells
+-- ---- a level has two words
+-- half h of level 0
+unfoldable pub firstWord : ℕ → ℕ → ℕ
+firstWord from h = pick (eqb h (from / 50)) (2 ^ spot from) 0
 
--- row y of the level after level d
-abbrev pub grownAt : List ℕ → List ℕ → ℕ → ℕ → ℕ
-grownAt rows levels d y = grownRow (getD rows y 0) (getD levels (d * 12 + y) 0) (getD levels (d * 12 + y + 1) 0) (getD levels (d * 12 + y + 2) 0)
+-- a half of the next level, by this level's half and the cells beside the other half
+unfoldable pub grownWord : ℕ → ℕ → ℕ → ℕ
+grownWord cells word across = bitAnd (bitOr (bitOr (bitOr (bitOr (bitOr word (word * 2 % 2 ^ 64)) (word / 2)) (word * 2 ^ 11 % 2 ^ 64)) (word / 2 ^ 11)) across) cells
 
--- the first y of ten rows from place b on hold what f says, and the rest is as it was
-pub record Rowed (f : ℕ → ℕ) (b y : ℕ) (l₀ l : List ℕ) : Type 0 where
-  pub within : y ≤ 10
+-- half h of level d
+abbrev pub wordAt : List ℕ → ℕ → ℕ → ℕ
+wordAt levels d h = getD levels (d * 2 + h) 0
+
+-- level d + 1 is made; it is level d if `change` is 0
+pub record Grown (words : List ℕ) (d : ℕ) (l₀ l : List ℕ) (change : ℕ) : Type 0 where
   pub long : length l ≡ length l₀
-  pub before : (k : ℕ) → k < b → getD l k 0 ≡ getD l₀ k 0
-  pub after : (k : ℕ) → b + y ≤ k → getD l k 0 ≡ getD l₀ k 0
-  pub at : (k : ℕ) → k < y → getD l (b + k) 0 ≡ f k
-
--- the first y rows of level d + 1 are made; they are those of level d if `change` is 0
-pub record Grown (rows : List ℕ) (d y : ℕ) (l₀ l : List ℕ) (change : ℕ) : Type 0 where
-  pub rowed : Rowed (grownAt rows l₀ d) (d * 12 + 13) y l₀ l
-  pub still : change ≡ 0 → (k : ℕ) → k < y → getD l (d * 12 + 13 + k) 0 ≡ getD l₀ (d * 12 + k + 1) 0
-
--- room for 101 levels, with 0 in the first and the last row of each
-pub record Guarded (l : List ℕ) : Type 0 where
-  pub long : length l ≡ 1212
-  pub first-row : (d : ℕ) → getD l (d * 12) 0 ≡ 0
-  pub last-row : (d : ℕ) → getD l (d * 12 + 11) 0 ≡ 0
+  pub before : (k : ℕ) → k < d * 2 + 2 → getD l k 0 ≡ getD l₀ k 0
+  pub upper : wordAt l (d + 1) 0 ≡ grownWord (getD words 0 0) (wordAt l₀ d 0) (wordAt l₀ d 1 * 2 ^ 44 % 2 ^ 64)
+  pub lower : wordAt l (d + 1) 1 ≡ grownWord (getD words 1 0) (wordAt l₀ d 1) (wordAt l₀ d 0 / 2 ^ 44)
+  pub still : change ≡ 0 → (h : ℕ) → h < 2 → wordAt l (d + 1) h ≡ wordAt l₀ d h
 
 -- ---- the moves that levels tell
 -- the bit of cell i in level d
 abbrev pub cellBit : List ℕ → ℕ → ℕ → ℕ
-cellBit levels d i = getD levels (d * 12 + i / 10 + 1) 0 / 2 ^ (i % 10) % 2
+cellBit levels d i = wordAt levels d (i / 50) / 2 ^ spot i % 2
 
 -- how many of the first n levels lack cell i
 unfoldable pub missing : List ℕ → ℕ → ℕ → ℕ
@@ -69,6 +72,6 @@ movesIn levels n = tabulate (movesBy levels n) 100 0
 
 -- n levels that tell the moves d
 pub record Spread (d : List ℕ) (l : List ℕ) (n : ℕ) : Type 0 where
-  pub guarded : Guarded l
+  pub long : length l ≡ 202
   pub few : n ≤ 101
   pub found : movesIn l n ≡ d

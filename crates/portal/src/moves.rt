@@ -1,80 +1,93 @@
-// The fewest moves inside a sector, by rows of bits: level d has the cells that at most d moves reach.
+// The fewest moves inside a sector, by words of bits: level d has the cells that at most d moves reach.
 ghost use mathlib.Core.Path.{_≡_};
 ghost use Prim.Native.Nat.{_+_, _*_, _≤_, _<_};
-ghost use lib.ListN.{length, getD};
+ghost use lib.ListN.{length, getD, set};
 ghost use Rattle.model.specs.Moves.{moves};
-ghost use Rattle.portal.specs.Levels.{openRows, firstRow, grownRow, grownAt, Rowed, Grown, Guarded, Spread, movesIn, missing};
+ghost use Rattle.portal.specs.Levels.{spot, openWord, openWords, firstWord, grownWord, Grown, Spread, missing, movesIn};
 use crate::marks::row_mark;
 
-// The open cells of a sector, a row at a time.
-pub fn open_rows(costs: &[u8], rows: &mut [u16])
-    requires { ⌜ length (now rows) ≡ 10 ⌝ }
-    ensures { λ _. ⌜ now (rows .exit) ≡ openRows (now (costs .entry)) ⌝ }
+// The bit of cell i in its word.
+fn spot_of(i: usize) -> usize
+    ensures { λ r. ⌜ (r ≡ spot i) × (r < 54) ⌝ }
 {
+    i % 50 / 10 * 11 + i % 10
+}
+
+fn long_word(row: u16) -> u64
+    ensures { λ r. ⌜ r ≡ row ⌝ }
+{
+    row as u64
+}
+
+// The open cells of half h of a sector, five rows of eleven bits.
+fn open_word(costs: &[u8], h: usize) -> u64
+    requires { ⌜ h < 2 ⌝ }
+    ensures { λ r. ⌜ r ≡ openWord (now (costs .entry)) h ⌝ }
+{
+    let mut word = 0u64;
     let mut y = 0;
-    while y < 10 {
-        rows[y] = row_mark(costs, y);
+    while y < 5 {
+        word = word | long_word(row_mark(costs, h * 5 + y)) << (y * 11);
         y += 1;
+    }
+    word
+}
+
+// The open cells of both halves.
+pub fn open_words(costs: &[u8], words: &mut [u64])
+    requires { ⌜ length (now words) ≡ 2 ⌝ }
+    ensures { λ _. ⌜ now (words .exit) ≡ openWords (now (costs .entry)) ⌝ }
+{
+    let mut h = 0;
+    while h < 2 {
+        words[h] = open_word(costs, h);
+        h += 1;
     }
 }
 
-// Room for levels, with no cell in any.
-pub fn no_levels() -> [u16; 1212]
-    ensures { λ r. ⌜ Guarded r ⌝ }
+// Half h of level 0, which has cell `from` alone.
+fn first_word(from: usize, h: usize) -> u64
+    ensures { λ r. ⌜ r ≡ firstWord from h ⌝ }
 {
-    [0u16; 1212]
-}
-
-// Row y of level 0, which has cell `from` alone.
-fn first_row(from: usize, y: usize) -> u16
-    ensures { λ r. ⌜ r ≡ firstRow from y ⌝ }
-{
-    if y == from / 10 {
-        return 1 << (from % 10);
+    if h == from / 50 {
+        return 1 << spot_of(from);
     }
     0
 }
 
 // Level 0.
-fn begin(from: usize, levels: &mut [u16])
-    requires { ⌜ length (now levels) ≡ 1212 ⌝ }
-    ensures { λ _. ⌜ Rowed (firstRow from) 1 10 (now (levels .entry)) (now (levels .exit)) ⌝ }
+fn begin(from: usize, levels: &mut [u64])
+    requires { ⌜ length (now levels) ≡ 202 ⌝ }
+    ensures { λ _. ⌜ now (levels .exit) ≡ set (set (now (levels .entry)) 0 (firstWord from 0)) 1 (firstWord from 1) ⌝ }
 {
-    let mut y = 0;
-    while y < 10 {
-        levels[1 + y] = first_row(from, y);
-        y += 1;
-    }
+    levels[0] = first_word(from, 0);
+    levels[1] = first_word(from, 1);
 }
 
-// A row of the next level: the open cells that are in this level or beside a cell of it.
-fn grown_row(cells: u16, above: u16, row: u16, below: u16) -> u16
-    ensures { λ r. ⌜ r ≡ grownRow cells above row below ⌝ }
+// A half of the next level: the open cells that are in this level or beside a cell of it; `across` has those beside a cell of the other half.
+fn grown_word(cells: u64, word: u64, across: u64) -> u64
+    ensures { λ r. ⌜ r ≡ grownWord cells word across ⌝ }
 {
-    (row | row << 1 | row >> 1 | above | below) & cells
+    (word | word << 1 | word >> 1 | word << 11 | word >> 11 | across) & cells
 }
 
 // Level d + 1, and 0 if it is level d.
-fn grow(rows: &[u16], d: usize, levels: &mut [u16]) -> u16
-    requires { ⌜ (length (now rows) ≡ 10) × (d < 100) × (length (now levels) ≡ 1212) ⌝ }
-    ensures { λ r. ⌜ Grown (now (rows .entry)) d 10 (now (levels .entry)) (now (levels .exit)) r ⌝ }
+fn grow(words: &[u64], d: usize, levels: &mut [u64]) -> u64
+    requires { ⌜ (length (now words) ≡ 2) × (d < 100) × (length (now levels) ≡ 202) ⌝ }
+    ensures { λ r. ⌜ Grown (now (words .entry)) d (now (levels .entry)) (now (levels .exit)) r ⌝ }
 {
-    let base = d * 12;
-    let mut change = 0u16;
-    let mut y = 0;
-    while y < 10 {
-        let row = levels[base + y + 1];
-        let next = grown_row(rows[y], levels[base + y], row, levels[base + y + 2]);
-        levels[base + 13 + y] = next;
-        change = change | (next ^ row);
-        y += 1;
-    }
-    change
+    let upper = levels[d * 2];
+    let lower = levels[d * 2 + 1];
+    let next = grown_word(words[0], upper, lower << 44);
+    let last = grown_word(words[1], lower, upper >> 44);
+    levels[d * 2 + 2] = next;
+    levels[d * 2 + 3] = last;
+    (next ^ upper) | (last ^ lower)
 }
 
 // The levels of the moves from a cell, and how many there are: the last has every cell that moves reach.
-pub fn spread(costs: &[u8], rows: &[u16], from: usize, levels: &mut [u16]) -> usize
-    requires { ⌜ (length (now costs) ≡ 100) × (now rows ≡ openRows (now costs)) × (from < 100) × Guarded (now levels) ⌝ }
+pub fn spread(costs: &[u8], words: &[u64], from: usize, levels: &mut [u64]) -> usize
+    requires { ⌜ (length (now costs) ≡ 100) × (now words ≡ openWords (now costs)) × (from < 100) × (length (now levels) ≡ 202) ⌝ }
     ensures { λ r. ⌜ Spread (moves (now (costs .entry)) from) (now (levels .exit)) r ⌝ }
 {
     begin(from, levels);
@@ -83,7 +96,7 @@ pub fn spread(costs: &[u8], rows: &[u16], from: usize, levels: &mut [u16]) -> us
     }
     let mut d = 0;
     while d < 100 {
-        if grow(rows, d, levels) == 0 {
+        if grow(words, d, levels) == 0 {
             return d + 1;
         }
         d += 1;
@@ -92,29 +105,29 @@ pub fn spread(costs: &[u8], rows: &[u16], from: usize, levels: &mut [u16]) -> us
 }
 
 // How many of n levels lack cell i.
-fn lacking(levels: &[u16], n: usize, i: usize) -> u16
-    requires { ⌜ (length (now levels) ≡ 1212) × (n ≤ 101) × (i < 100) ⌝ }
+fn lacking(levels: &[u64], n: usize, i: usize) -> u64
+    requires { ⌜ (length (now levels) ≡ 202) × (n ≤ 101) × (i < 100) ⌝ }
     ensures { λ r. ⌜ r ≡ missing (now (levels .entry)) n i ⌝ }
 {
-    let y = i / 10;
-    let x = i % 10;
-    let mut k = 0u16;
+    let h = i / 50;
+    let k = spot_of(i);
+    let mut lack = 0u64;
     let mut d = 0;
     while d < n {
-        k += 1 - (levels[d * 12 + y + 1] >> x) % 2;
+        lack += 1 - (levels[d * 2 + h] >> k) % 2;
         d += 1;
     }
-    k
+    lack
 }
 
 // The fewest moves to cell i, by n levels, and 255 where none lead.
-pub fn moves_at(levels: &[u16], n: usize, i: usize) -> u8
-    requires { ⌜ (length (now levels) ≡ 1212) × (n ≤ 101) × (i < 100) ⌝ }
+pub fn moves_at(levels: &[u64], n: usize, i: usize) -> u8
+    requires { ⌜ (length (now levels) ≡ 202) × (n ≤ 101) × (i < 100) ⌝ }
     ensures { λ r. ⌜ r ≡ getD (movesIn (now (levels .entry)) n) i 0 ⌝ }
 {
-    let k = lacking(levels, n, i);
-    if (k as usize) < n {
-        return k as u8;
+    let lack = lacking(levels, n, i);
+    if (lack as usize) < n {
+        return lack as u8;
     }
     255
 }

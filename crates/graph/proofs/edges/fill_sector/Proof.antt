@@ -1,11 +1,12 @@
 -- `fill_sector` fills the table number by number. The loop's invariant: the weights of the sector's numbers before place c stand in it.
 use native.Mathlib.Omega.{arith}
-use mathlib.Core.Path.{refl, sym, ap, _∙_}
+use mathlib.Core.Path.{_≡_, refl, sym, ap, _∙_}
 use Prim.Native.Nat.{ℕ, _+_, _-_, _*_, _≤_}
+use lib.ListN.{length}
 use denote.Ref.{now}
 use Rattle.model.specs.Sectors.{costsOf}
 use Rattle.model.specs.Store.{decode}
-use Rattle.portal.specs.Levels.{openRows, Guarded}
+use Rattle.portal.specs.Levels.{openWords}
 use Rattle.graph.specs.EdgeTable.{Filled, filled-at}
 use Rattle.graph.specs.Near.{sectorMids}
 use Rattle.graph.specs.Reading.{few-of}
@@ -14,34 +15,31 @@ use Rattle.graph.proofs.edges.fill_sector.Statement.{statement}
 use Rattle.graph.proofs.edges.fill_sector.Tie as tie
 
 abbrev Inv-loop : tie.InvT-loop
-Inv-loop st m s table₀ mids rows levels₀ c₀ table levels c = (c ≤ 20) × Filled (decode st) (s * 400 + c * 20) table × Guarded levels
+Inv-loop st m s table₀ mids words levels₀ c₀ table levels c = (c ≤ 20) × Filled (decode st) (s * 400 + c * 20) table × (length levels ≡ 202)
 
 abbrev μ-loop : tie.MeasureT-loop
-μ-loop st m s table₀ mids rows levels₀ c₀ table levels c = 20 - c
+μ-loop st m s table₀ mids words levels₀ c₀ table levels c = 20 - c
 
-abbrev S : tie.After-rows2 Inv-loop μ-loop → tie.Start Inv-loop μ-loop
-S c = c .before .before .before .before .before .before .before .before .before
+abbrev S : tie.After-words2 Inv-loop μ-loop → tie.Start Inv-loop μ-loop
+S c = c .before .before .before .before .before .before .before .before
 
-few : (c : tie.After-rows2 Inv-loop μ-loop) → S c .args .s ≤ 100
+few : (c : tie.After-words2 Inv-loop μ-loop) → S c .args .s ≤ 100
 few c = omega (arith, few-of (S c .pre .0) .few, S c .pre .1)
-
-no-levels-requires : tie.Need-no-levels-requires Inv-loop μ-loop
-no-levels-requires c κs = search needs
 
 slice-aggregate-sector-mids : tie.Need-slice-aggregate-sector-mids Inv-loop μ-loop
 slice-aggregate-sector-mids c = search needs
 
 sector-mids-requires : tie.Need-sector-mids-requires Inv-loop μ-loop
-sector-mids-requires c κs = let start = c .before .before .before .before in (start .pre .0, omega (arith, few-of (start .pre .0) .few, start .pre .1), refl)
+sector-mids-requires c κs = let start = c .before .before .before in (start .pre .0, omega (arith, few-of (start .pre .0) .few, start .pre .1), refl)
 
-slice-aggregate-sector-rows : tie.Need-slice-aggregate-sector-rows Inv-loop μ-loop
-slice-aggregate-sector-rows c = search needs
+slice-aggregate-sector-words : tie.Need-slice-aggregate-sector-words Inv-loop μ-loop
+slice-aggregate-sector-words c = search needs
 
-sector-rows-requires : tie.Need-sector-rows-requires Inv-loop μ-loop
-sector-rows-requires c κs = search needs
+sector-words-requires : tie.Need-sector-words-requires Inv-loop μ-loop
+sector-words-requires c κs = search needs
 
 loop-holds : tie.Need-loop-holds Inv-loop μ-loop
-loop-holds c = (omega arith, filled-at (S c .pre .2) (omega arith), c .before .before .before .before .before .before .no-levels .ensures)
+loop-holds c = (omega arith, filled-at (S c .pre .2) (omega arith), refl)
 
 mul-fill-number : tie.Need-mul-fill-number Inv-loop μ-loop
 mul-fill-number c = omega (arith, few (c .before .before))
@@ -70,7 +68,7 @@ fill-number-requires c κs =
         c .before .before .before .before .before .before .before .before .before .before .sector-mids .ensures ∙ ap (λ (k : ℕ). sectorMids h k) (omega (arith, test)),
         filled-at (at .loop .inv .1) (omega arith),
       ),
-      (c .before .before .before .before .before .before .before .sector-rows .ensures ∙ ap (λ (k : ℕ). openRows (costsOf (h .scaled) k)) (omega (arith, test)), at .loop .inv .2),
+      (c .before .before .before .before .before .before .before .sector-words .ensures ∙ ap (λ (k : ℕ). openWords (costsOf (h .scaled) k)) (omega (arith, test)), at .loop .inv .2),
     )
 
 add-c : tie.Need-add-c Inv-loop μ-loop
@@ -80,7 +78,7 @@ loop-less : tie.Need-loop-less Inv-loop μ-loop
 loop-less c = omega arith
 
 loop-again : tie.Need-loop-again Inv-loop μ-loop
-loop-again c = (omega (arith, c .before .before .before .before .before .before .before .before .loop-test .taken), filled-at (c .before .before .before .fill-number .ensures .0) (omega arith), c .before .before .before .fill-number .ensures .1)
+loop-again c = (omega (arith, c .before .before .before .before .before .before .before .before .loop-test .taken), filled-at (c .before .before .before .fill-number .ensures) (omega arith), search needs)
 
 same-length : tie.Need-same-length Inv-loop μ-loop
 same-length c = c .before .loop .inv .1 .long ∙ sym (S (c .before .before) .pre .2 .long)
@@ -94,11 +92,10 @@ fill-sector-spec =
     (tie.spec
     Inv-loop
     μ-loop
-    no-levels-requires
     slice-aggregate-sector-mids
     sector-mids-requires
-    slice-aggregate-sector-rows
-    sector-rows-requires
+    slice-aggregate-sector-words
+    sector-words-requires
     loop-holds
     mul-fill-number
     add-fill-number

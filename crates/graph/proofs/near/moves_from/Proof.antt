@@ -8,7 +8,7 @@ use denote.Ref.{now}
 use Rattle.model.specs.Moves.{moves}
 use Rattle.model.specs.Sectors.{sectorOf, placeOf, costsOf}
 use Rattle.model.specs.Store.{decode}
-use Rattle.portal.specs.Levels.{openRows}
+use Rattle.portal.specs.Levels.{openWords}
 use Rattle.graph.specs.Reading.{few-of}
 use Rattle.graph.specs.Weights.{costs-part}
 use borrow.Author.Needs.{needs}
@@ -49,7 +49,7 @@ part-spread-end : tie.Need-part-spread-end
 part-spread-end c = omega (arith, c .cells .ensures, few-of (S c .pre .0) .room, S c .pre)
 
 spread-requires : tie.Need-spread-requires
-spread-requires c κs = let at = c .before .before in (search needs, S at .pre .2 ∙ ap openRows (sym (part at)), omega arith, S at .pre .3)
+spread-requires c κs = let at = c .before .before in (search needs, S at .pre .2 ∙ ap openWords (sym (part at)), omega arith, S at .pre .3)
 
 same-length : tie.Need-same-length
 same-length c = search needs
@@ -58,7 +58,7 @@ returns : tie.Need-returns
 returns c =
     let at = c .before .before .before .before .before in
     let spread = c .before .before .spread .ensures in
-    record { guarded = spread .guarded; few = spread .few; found = spread .found ∙ ap (λ (k : List ℕ). moves k (placeOf (S at .args .x))) (part at) }
+    record { long = spread .long; few = spread .few; found = spread .found ∙ ap (λ (k : List ℕ). moves k (placeOf (S at .args .x))) (part at) }
 
 pub moves-from-spec : {M : Type 1} → statement M
 moves-from-spec =

@@ -8,14 +8,11 @@ use Rattle.graph.proofs.near.moves_to.Tie as tie
 returns : tie.Need-returns
 returns c = other-sector _ _ _ (c .if1 .taken)
 
-no-levels-requires : tie.Need-no-levels-requires
-no-levels-requires c κs = search needs
+slice-aggregate-sector-words : tie.Need-slice-aggregate-sector-words
+slice-aggregate-sector-words c = search needs
 
-slice-aggregate-sector-rows : tie.Need-slice-aggregate-sector-rows
-slice-aggregate-sector-rows c = search needs
-
-sector-rows-requires : tie.Need-sector-rows-requires
-sector-rows-requires c κs = search needs
+sector-words-requires : tie.Need-sector-words-requires
+sector-words-requires c κs = search needs
 
 slice-aggregate-moves-from : tie.Need-slice-aggregate-moves-from
 slice-aggregate-moves-from c = search needs
@@ -33,16 +30,15 @@ moves-at-requires : tie.Need-moves-at-requires
 moves-at-requires c κs = search needs
 
 returns-2 : tie.Need-returns-2
-returns-2 c = c .moves-at .ensures ∙ same-sector _ _ _ (c .before .before .before .before .before .before .before .before .before .before .if1 .left) (c .before .before .before .moves-from .ensures .found)
+returns-2 c = c .moves-at .ensures ∙ same-sector _ _ _ (c .before .before .before .before .before .before .before .before .before .if1 .left) (c .before .before .before .moves-from .ensures .found)
 
 pub moves-to-spec : {M : Type 1} → statement M
 moves-to-spec =
     tie.close
     (tie.spec
     returns
-    no-levels-requires
-    slice-aggregate-sector-rows
-    sector-rows-requires
+    slice-aggregate-sector-words
+    sector-words-requires
     slice-aggregate-moves-from
     slice-aggregate-moves-from-2
     moves-from-requires

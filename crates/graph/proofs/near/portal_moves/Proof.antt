@@ -17,14 +17,11 @@ Inv-loop st x near₀ levels mids n c₀ near c = Tabled (λ k. nearBy (movesIn 
 abbrev μ-loop : tie.MeasureT-loop
 μ-loop st x near₀ levels mids n c₀ near c = 20 - c
 
-no-levels-requires : tie.Need-no-levels-requires Inv-loop μ-loop
-no-levels-requires c κs = search needs
+slice-aggregate-sector-words : tie.Need-slice-aggregate-sector-words Inv-loop μ-loop
+slice-aggregate-sector-words c = search needs
 
-slice-aggregate-sector-rows : tie.Need-slice-aggregate-sector-rows Inv-loop μ-loop
-slice-aggregate-sector-rows c = search needs
-
-sector-rows-requires : tie.Need-sector-rows-requires Inv-loop μ-loop
-sector-rows-requires c κs = search needs
+sector-words-requires : tie.Need-sector-words-requires Inv-loop μ-loop
+sector-words-requires c κs = search needs
 
 slice-aggregate-moves-from : tie.Need-slice-aggregate-moves-from Inv-loop μ-loop
 slice-aggregate-moves-from c = search needs
@@ -39,7 +36,7 @@ slice-aggregate-sector-mids : tie.Need-slice-aggregate-sector-mids Inv-loop μ-l
 slice-aggregate-sector-mids c = search needs
 
 sector-mids-requires : tie.Need-sector-mids-requires Inv-loop μ-loop
-sector-mids-requires c κs = let start = c .before .before .before .before .before .before .before .before .before .before .before in (start .pre .0, omega (arith, few-of (start .pre .0) .few, start .pre .1), refl)
+sector-mids-requires c κs = let start = c .before .before .before .before .before .before .before .before .before .before in (start .pre .0, omega (arith, few-of (start .pre .0) .few, start .pre .1), refl)
 
 loop-holds : tie.Need-loop-holds Inv-loop μ-loop
 loop-holds c = search (needs, tabling)
@@ -51,7 +48,7 @@ array-read-near-by : tie.Need-array-read-near-by Inv-loop μ-loop
 array-read-near-by c = search needs
 
 near-by-requires : tie.Need-near-by-requires Inv-loop μ-loop
-near-by-requires c κs = let spread = c .before .before .before .before .before .before .before .moves-from .ensures in (spread .guarded .long, spread .few)
+near-by-requires c κs = let spread = c .before .before .before .before .before .before .before .moves-from .ensures in (spread .long, spread .few)
 
 slice-write-near : tie.Need-slice-write-near Inv-loop μ-loop
 slice-write-near c = search needs
@@ -77,9 +74,8 @@ portal-moves-spec =
     (tie.spec
     Inv-loop
     μ-loop
-    no-levels-requires
-    slice-aggregate-sector-rows
-    sector-rows-requires
+    slice-aggregate-sector-words
+    sector-words-requires
     slice-aggregate-moves-from
     slice-aggregate-moves-from-2
     moves-from-requires

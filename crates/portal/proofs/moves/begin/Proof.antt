@@ -1,63 +1,34 @@
--- `begin` fills the rows of level 0.
-use Prim.Native.Nat.{_-_}
-use native.Mathlib.Omega.{arith}
-use Rattle.portal.specs.Levels.{firstRow, Rowed}
-use Rattle.portal.proofs.Levels.{rowed-none, rowed-more, rowed-all}
+-- `begin` stores the two halves of level 0.
+use mathlib.Core.Path.{refl}
 use borrow.Author.Needs.{needs}
 use Rattle.portal.proofs.moves.begin.Statement.{statement}
 use Rattle.portal.proofs.moves.begin.Tie as tie
 
--- `begin` fills the rows of level 0.
+first-word-requires : tie.Need-first-word-requires
+first-word-requires c κs = search needs
 
-abbrev Inv-loop : tie.InvT-loop
-Inv-loop from levels₀ y₀ levels y = Rowed (firstRow from) 1 y levels₀ levels
+slice-write-levels : tie.Need-slice-write-levels
+slice-write-levels c = search needs
 
-abbrev μ-loop : tie.MeasureT-loop
-μ-loop from levels₀ y₀ levels y = 10 - y
+first-word-requires-2 : tie.Need-first-word-requires-2
+first-word-requires-2 c κs = search needs
 
-loop-holds : tie.Need-loop-holds Inv-loop μ-loop
-loop-holds c = rowed-none _ _ _
+slice-write-levels-2 : tie.Need-slice-write-levels-2
+slice-write-levels-2 c = search needs
 
-first-row-requires : tie.Need-first-row-requires Inv-loop μ-loop
-first-row-requires c κs = search needs
+same-length : tie.Need-same-length
+same-length c = search needs
 
-add-levels : tie.Need-add-levels Inv-loop μ-loop
-add-levels c = search needs
-
-mul-levels : tie.Need-mul-levels Inv-loop μ-loop
-mul-levels c = search needs
-
-slice-write-levels : tie.Need-slice-write-levels Inv-loop μ-loop
-slice-write-levels c = omega (arith, c .before .before .loop .inv .long, c .before .before .before .before .pre)
-
-add-y : tie.Need-add-y Inv-loop μ-loop
-add-y c = search needs
-
-loop-less : tie.Need-loop-less Inv-loop μ-loop
-loop-less c = search needs
-
-loop-again : tie.Need-loop-again Inv-loop μ-loop
-loop-again c = rowed-more (c .before .before .loop .inv) (c .before .loop-test .taken) (omega (arith, c .before .before .before .before .pre)) (c .first-row .ensures)
-
-same-length : tie.Need-same-length Inv-loop μ-loop
-same-length c = c .before .loop .inv .long
-
-returns : tie.Need-returns Inv-loop μ-loop
-returns c = rowed-all (c .before .loop .inv) (c .loop-test .left)
+returns : tie.Need-returns
+returns c = rw (c .before .first-word .ensures, c .first-word2 .ensures) refl
 
 pub begin-spec : {M : Type 1} → statement M
 begin-spec =
     tie.close
     (tie.spec
-    Inv-loop
-    μ-loop
-    loop-holds
-    first-row-requires
-    add-levels
-    mul-levels
+    first-word-requires
     slice-write-levels
-    add-y
-    loop-less
-    loop-again
+    first-word-requires-2
+    slice-write-levels-2
     same-length
     returns)

@@ -1,123 +1,96 @@
--- `grow` makes the rows of the next level.
-use Prim.Native.Nat.{_-_}
+-- `grow` stores the two halves of the next level.
 use native.Mathlib.Omega.{arith}
-use Rattle.portal.specs.Levels.{Grown}
-use Rattle.portal.proofs.Levels.{grown-none, grown-more, grown-all}
+use lib.ListN.{length-set}
+use Rattle.portal.proofs.Levels.{grown-is}
 use borrow.Author.Needs.{needs}
 use Rattle.portal.proofs.moves.grow.Statement.{statement}
 use Rattle.portal.proofs.moves.grow.Tie as tie
 
--- `grow` makes the rows of the next level.
+mul-upper : tie.Need-mul-upper
+mul-upper c = search needs
 
-abbrev Inv-loop : tie.InvT-loop
-Inv-loop rows d levels₀ base change₀ y₀ levels change y = Grown rows d y levels₀ levels change
+mul-upper-2 : tie.Need-mul-upper-2
+mul-upper-2 c = search needs
 
-abbrev μ-loop : tie.MeasureT-loop
-μ-loop rows d levels₀ base change₀ y₀ levels change y = 10 - y
+slice-read-upper : tie.Need-slice-read-upper
+slice-read-upper c = search needs
 
-mul-base : tie.Need-mul-base Inv-loop μ-loop
-mul-base c = search needs
+mul-lower : tie.Need-mul-lower
+mul-lower c = search needs
 
-loop-holds : tie.Need-loop-holds Inv-loop μ-loop
-loop-holds c = grown-none _ _ _
+add-lower : tie.Need-add-lower
+add-lower c = search needs
 
-add-row : tie.Need-add-row Inv-loop μ-loop
-add-row c = search needs
+mul-lower-2 : tie.Need-mul-lower-2
+mul-lower-2 c = search needs
 
-add-row-2 : tie.Need-add-row-2 Inv-loop μ-loop
-add-row-2 c = search needs
+slice-read-lower : tie.Need-slice-read-lower
+slice-read-lower c = search needs
 
-mul-row : tie.Need-mul-row Inv-loop μ-loop
-mul-row c = search needs
+shared-slice-read-grown-word : tie.Need-shared-slice-read-grown-word
+shared-slice-read-grown-word c = search needs
 
-slice-read-row : tie.Need-slice-read-row Inv-loop μ-loop
-slice-read-row c = search needs
+grown-word-requires : tie.Need-grown-word-requires
+grown-word-requires c κs = search needs
 
-mul-grown-row : tie.Need-mul-grown-row Inv-loop μ-loop
-mul-grown-row c = search needs
+shared-slice-read-grown-word-2 : tie.Need-shared-slice-read-grown-word-2
+shared-slice-read-grown-word-2 c = search needs
 
-shared-slice-read-grown-row : tie.Need-shared-slice-read-grown-row Inv-loop μ-loop
-shared-slice-read-grown-row c = search needs
+grown-word-requires-2 : tie.Need-grown-word-requires-2
+grown-word-requires-2 c κs = search needs
 
-add-grown-row : tie.Need-add-grown-row Inv-loop μ-loop
-add-grown-row c = search needs
-
-mul-grown-row-2 : tie.Need-mul-grown-row-2 Inv-loop μ-loop
-mul-grown-row-2 c = search needs
-
-slice-read-grown-row : tie.Need-slice-read-grown-row Inv-loop μ-loop
-slice-read-grown-row c = search needs
-
-add-grown-row-2 : tie.Need-add-grown-row-2 Inv-loop μ-loop
-add-grown-row-2 c = search needs
-
-add-grown-row-3 : tie.Need-add-grown-row-3 Inv-loop μ-loop
-add-grown-row-3 c = search needs
-
-mul-grown-row-3 : tie.Need-mul-grown-row-3 Inv-loop μ-loop
-mul-grown-row-3 c = search needs
-
-slice-read-grown-row-2 : tie.Need-slice-read-grown-row-2 Inv-loop μ-loop
-slice-read-grown-row-2 c = search needs
-
-grown-row-requires : tie.Need-grown-row-requires Inv-loop μ-loop
-grown-row-requires c κs = search needs
-
-add-levels : tie.Need-add-levels Inv-loop μ-loop
-add-levels c = search needs
-
-add-levels-2 : tie.Need-add-levels-2 Inv-loop μ-loop
-add-levels-2 c = search needs
-
-mul-levels : tie.Need-mul-levels Inv-loop μ-loop
+mul-levels : tie.Need-mul-levels
 mul-levels c = search needs
 
-slice-write-levels : tie.Need-slice-write-levels Inv-loop μ-loop
+add-levels : tie.Need-add-levels
+add-levels c = search needs
+
+mul-levels-2 : tie.Need-mul-levels-2
+mul-levels-2 c = search needs
+
+slice-write-levels : tie.Need-slice-write-levels
 slice-write-levels c = search needs
 
-add-y : tie.Need-add-y Inv-loop μ-loop
-add-y c = search needs
+mul-levels-3 : tie.Need-mul-levels-3
+mul-levels-3 c = search needs
 
-loop-less : tie.Need-loop-less Inv-loop μ-loop
-loop-less c = search needs
+add-levels-2 : tie.Need-add-levels-2
+add-levels-2 c = search needs
 
-loop-again : tie.Need-loop-again Inv-loop μ-loop
-loop-again c = grown-more (c .before .before .before .before .before .before .loop .inv) (c .before .before .before .before .before .loop-test .taken) (omega (arith, c .before .before .before .before .before .before .before .before .before .pre)) (c .grown-row .ensures)
+mul-levels-4 : tie.Need-mul-levels-4
+mul-levels-4 c = search needs
 
-same-length : tie.Need-same-length Inv-loop μ-loop
-same-length c = c .before .loop .inv .rowed .long
+slice-write-levels-2 : tie.Need-slice-write-levels-2
+slice-write-levels-2 c = simp length-set (omega (arith, c .before .before .before .before .before .before .before .before .pre))
 
-returns : tie.Need-returns Inv-loop μ-loop
-returns c = grown-all (c .before .loop .inv) (c .loop-test .left)
+same-length : tie.Need-same-length
+same-length c = search needs
+
+returns : tie.Need-returns
+returns c = grown-is _ _ _ (omega (arith, c .before .before .before .before .before .before .before .before .pre)) (c .before .before .grown-word .ensures) (c .grown-word2 .ensures)
 
 pub grow-spec : {M : Type 1} → statement M
 grow-spec =
     tie.close
     (tie.spec
-    Inv-loop
-    μ-loop
-    mul-base
-    loop-holds
-    add-row
-    add-row-2
-    mul-row
-    slice-read-row
-    mul-grown-row
-    shared-slice-read-grown-row
-    add-grown-row
-    mul-grown-row-2
-    slice-read-grown-row
-    add-grown-row-2
-    add-grown-row-3
-    mul-grown-row-3
-    slice-read-grown-row-2
-    grown-row-requires
-    add-levels
-    add-levels-2
+    mul-upper
+    mul-upper-2
+    slice-read-upper
+    mul-lower
+    add-lower
+    mul-lower-2
+    slice-read-lower
+    shared-slice-read-grown-word
+    grown-word-requires
+    shared-slice-read-grown-word-2
+    grown-word-requires-2
     mul-levels
+    add-levels
+    mul-levels-2
     slice-write-levels
-    add-y
-    loop-less
-    loop-again
+    mul-levels-3
+    add-levels-2
+    mul-levels-4
+    slice-write-levels-2
     same-length
     returns)

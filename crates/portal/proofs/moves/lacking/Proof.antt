@@ -1,53 +1,47 @@
 -- `lacking` counts the levels without the cell.
 use Prim.Native.Nat.{ℕ, _-_, _≤_}
 use native.Mathlib.Numerals.{add-one}
-use mathlib.Core.Path.{_≡_, refl, ap, _∙_}
-use lib.ListN.{getD}
-use denote.Ref.{now}
 use native.Mathlib.Omega.{arith}
+use mathlib.Core.Path.{_≡_, refl, ap, _∙_}
+use denote.Ref.{now}
 use Rattle.portal.specs.Levels.{missing}
 use borrow.Author.Needs.{needs}
 use Rattle.portal.proofs.moves.lacking.Statement.{statement}
 use Rattle.portal.proofs.moves.lacking.Tie as tie
 
--- `lacking` counts the levels without the cell.
-
 abbrev Inv-loop : tie.InvT-loop
-Inv-loop levels n i y x k₀ d₀ k d = (d ≤ n) × (k ≤ d) × (k ≡ missing levels d i)
+Inv-loop levels n i h k lack₀ d₀ lack d = (d ≤ n) × (lack ≤ d) × (lack ≡ missing levels d i)
 
 abbrev μ-loop : tie.MeasureT-loop
-μ-loop levels n i y x k₀ d₀ k d = n - d
+μ-loop levels n i h k lack₀ d₀ lack d = n - d
+
+spot-of-requires : tie.Need-spot-of-requires Inv-loop μ-loop
+spot-of-requires c κs = search needs
 
 loop-holds : tie.Need-loop-holds Inv-loop μ-loop
 unfolding missing
 loop-holds c = (omega arith, omega arith, refl)
 
-mul-k : tie.Need-mul-k Inv-loop μ-loop
-mul-k c = search needs
+mul-lack : tie.Need-mul-lack Inv-loop μ-loop
+mul-lack c = search needs
 
-add-k : tie.Need-add-k Inv-loop μ-loop
-add-k c = search needs
+add-lack : tie.Need-add-lack Inv-loop μ-loop
+add-lack c = search needs
 
-add-k-2 : tie.Need-add-k-2 Inv-loop μ-loop
-add-k-2 c = omega arith
+mul-lack-2 : tie.Need-mul-lack-2 Inv-loop μ-loop
+mul-lack-2 c = search needs
 
-mul-k-2 : tie.Need-mul-k-2 Inv-loop μ-loop
-mul-k-2 c = search needs
+shared-slice-read-lack : tie.Need-shared-slice-read-lack Inv-loop μ-loop
+shared-slice-read-lack c = search needs
 
-shared-slice-read-k : tie.Need-shared-slice-read-k Inv-loop μ-loop
-shared-slice-read-k c = search needs
+shr-lack : tie.Need-shr-lack Inv-loop μ-loop
+shr-lack c = search needs
 
-cast-k : tie.Need-cast-k Inv-loop μ-loop
-cast-k c = search needs
+sub-lack : tie.Need-sub-lack Inv-loop μ-loop
+sub-lack c = search needs
 
-shr-k : tie.Need-shr-k Inv-loop μ-loop
-shr-k c = search needs
-
-sub-k : tie.Need-sub-k Inv-loop μ-loop
-sub-k c = omega arith
-
-add-k-3 : tie.Need-add-k-3 Inv-loop μ-loop
-add-k-3 c = search needs
+add-lack-2 : tie.Need-add-lack-2 Inv-loop μ-loop
+add-lack-2 c = search needs
 
 add-d : tie.Need-add-d Inv-loop μ-loop
 add-d c = search needs
@@ -57,10 +51,10 @@ loop-less c = search needs
 
 loop-again : tie.Need-loop-again Inv-loop μ-loop
 unfolding missing
-loop-again c = (omega arith, omega arith, rw (add-one (c .before .before .loop .d)) (omega (arith, c .before .before .loop .inv .2)))
+loop-again c = (omega arith, omega arith, rw (add-one (c .before .before .loop .d), c .before .before .before .spot-of .ensures .0) (omega (arith, c .before .before .loop .inv .2)))
 
 returns : tie.Need-returns Inv-loop μ-loop
-returns c = c .before .loop .inv .2 ∙ ap (λ (k : ℕ). missing (now (c .before .before .args .levels)) k (c .before .before .args .i)) (omega (arith, c .before .loop .inv .0, c .loop-test .left))
+returns c = c .before .loop .inv .2 ∙ ap (λ (k : ℕ). missing (now (c .before .before .before .before .args .levels)) k (c .before .before .before .before .args .i)) (omega (arith, c .before .loop .inv .0, c .loop-test .left))
 
 pub lacking-spec : {M : Type 1} → statement M
 lacking-spec =
@@ -68,16 +62,15 @@ lacking-spec =
     (tie.spec
     Inv-loop
     μ-loop
+    spot-of-requires
     loop-holds
-    mul-k
-    add-k
-    add-k-2
-    mul-k-2
-    shared-slice-read-k
-    cast-k
-    shr-k
-    sub-k
-    add-k-3
+    mul-lack
+    add-lack
+    mul-lack-2
+    shared-slice-read-lack
+    shr-lack
+    sub-lack
+    add-lack-2
     add-d
     loop-less
     loop-again

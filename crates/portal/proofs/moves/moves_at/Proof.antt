@@ -7,9 +7,6 @@ use Rattle.portal.proofs.moves.moves_at.Tie as tie
 lacking-requires : tie.Need-lacking-requires
 lacking-requires c κs = search needs
 
-cast-if1 : tie.Need-cast-if1
-cast-if1 c = search needs
-
 cast-result : tie.Need-cast-result
 cast-result c = search needs
 
@@ -20,4 +17,4 @@ returns-2 : tie.Need-returns-2
 returns-2 c = told-none _ _ _ (c .before .before .before .pre .2) (c .before .lacking .ensures) (c .if1 .left)
 
 pub moves-at-spec : {M : Type 1} → statement M
-moves-at-spec = tie.close (tie.spec lacking-requires cast-if1 cast-result returns returns-2)
+moves-at-spec = tie.close (tie.spec lacking-requires cast-result returns returns-2)
