@@ -1,7 +1,7 @@
 // Moves between a cell and the portals of its sector.
 ghost use mathlib.Core.Path.{_≡_};
 ghost use Prim.Native.Nat.{_*_, _/_, _%_, _≤_, _<_};
-ghost use lib.ListN.{length, getD};
+ghost use lib.ListN.{length};
 ghost use Rattle.laws.specs.Fold.{pick};
 ghost use Rattle.model.specs.Sectors.{sectors, cells, sectorOf, placeOf, costsOf};
 ghost use Rattle.model.specs.Moves.{moves, movesTo, joined, apart};

@@ -4,4 +4,5 @@ pub mod Places
 pub mod Entries
 pub mod Bits
 pub mod Steps
+pub mod Words
 pub mod Levels

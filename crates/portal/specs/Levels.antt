@@ -37,9 +37,13 @@ openWords costs = tabulate (openWord costs) 2 0
 unfoldable pub firstWord : ℕ → ℕ → ℕ
 firstWord from h = pick (eqb h (from / 50)) (2 ^ spot from) 0
 
--- a half of the next level, by this level's half and the cells beside the other half
+-- the cells of a half and those beside them, with those beside the other half
+unfoldable pub around : ℕ → ℕ → ℕ
+around word across = bitOr (bitOr (bitOr (bitOr (bitOr word (word * 2 % 2 ^ 64)) (word / 2)) (word * 2 ^ 11 % 2 ^ 64)) (word / 2 ^ 11)) across
+
+-- a half of the next level: the open cells of these
 unfoldable pub grownWord : ℕ → ℕ → ℕ → ℕ
-grownWord cells word across = bitAnd (bitOr (bitOr (bitOr (bitOr (bitOr word (word * 2 % 2 ^ 64)) (word / 2)) (word * 2 ^ 11 % 2 ^ 64)) (word / 2 ^ 11)) across) cells
+grownWord cells word across = bitAnd (around word across) cells
 
 -- half h of level d
 abbrev pub wordAt : List ℕ → ℕ → ℕ → ℕ

@@ -13,6 +13,7 @@ fn spot_of(i: usize) -> usize
     i % 50 / 10 * 11 + i % 10
 }
 
+// A row as a word.
 fn long_word(row: u16) -> u64
     ensures { λ r. ⌜ r ≡ row ⌝ }
 {

@@ -1,7 +1,7 @@
 -- `grow` stores the two halves of the next level.
 use native.Mathlib.Omega.{arith}
 use lib.ListN.{length-set}
-use Rattle.portal.proofs.Levels.{grown-is}
+use Rattle.portal.proofs.Words.{grown-is}
 use borrow.Author.Needs.{needs}
 use Rattle.portal.proofs.moves.grow.Statement.{statement}
 use Rattle.portal.proofs.moves.grow.Tie as tie

@@ -1,11 +1,11 @@
 -- `grown_word` is the word as it is defined.
 use mathlib.Core.Path.{refl}
-use Rattle.portal.specs.Levels.{grownWord}
+use Rattle.portal.specs.Levels.{around, grownWord}
 use Rattle.portal.proofs.moves.grown_word.Statement.{statement}
 use Rattle.portal.proofs.moves.grown_word.Tie as tie
 
 returns : tie.Need-returns
-unfolding grownWord
+unfolding grownWord around
 returns c = refl
 
 pub grown-word-spec : {M : Type 1} → statement M

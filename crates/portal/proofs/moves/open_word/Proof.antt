@@ -4,7 +4,7 @@ use native.Mathlib.Omega.{arith}
 use mathlib.Core.Path.{_≡_, ap, _∙_}
 use denote.Ref.{now}
 use Rattle.portal.specs.Levels.{packed, openRow, openWord}
-use Rattle.portal.proofs.Levels.{packed-none, packed-more, row-small}
+use Rattle.portal.proofs.Words.{packed-none, packed-more, row-small}
 use borrow.Author.Needs.{needs}
 use Rattle.portal.proofs.moves.open_word.Statement.{statement}
 use Rattle.portal.proofs.moves.open_word.Tie as tie
