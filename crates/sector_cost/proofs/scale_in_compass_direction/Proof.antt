@@ -1,87 +1,101 @@
--- `scale_in_compass_direction` is the walk: its loop stops where the search for a wall does, and yields whether it met one.
-use mathlib.Core.Path.{sym, _∙_}
-use mathlib.Core.Logic.{⊎-elim}
-use Prim.Native.Nat.{_+_, _-_}
+-- `scale_in_compass_direction` is the walk: a wall inside the sector ends it, and from the border on it goes by landings.
+use Prim.Native.Nat.{_+_, _*_}
+use mathlib.Core.Path.{_∙_}
 use native.Mathlib.Omega.{arith}
 use denote.Ref.{now}
-use Rattle.laws.specs.Search.{Sought, sought-yes, sought-no, Clear, seeking}
-use Rattle.model.specs.Directions.{landing}
-use Rattle.model.specs.Scaling.{isWall, passes, blockPassed, walk}
+use lib.ListN.{length}
+use Rattle.laws.specs.Search.{Clear}
+use Rattle.sector_cost.specs.Lines.{Line, line-before}
+use Rattle.sector_cost.specs.Inside.{line-inside, wallAt, walk-met, walk-clear, walk-none, walk-is}
 use borrow.Author.Needs.{needs}
 use Rattle.sector_cost.proofs.scale_in_compass_direction.Statement.{statement}
 use Rattle.sector_cost.proofs.scale_in_compass_direction.Tie as tie
 
-abbrev Inv-scale-loop : tie.InvT-scale-loop
-Inv-scale-loop m s i k scaled scale d n₀ n = Clear (λ j. isWall m scaled s (landing i d (j + 1))) scale n
-
-abbrev μ-scale-loop : tie.MeasureT-scale-loop
-μ-scale-loop m s i k scaled scale d n₀ n = scale - n
-
--- where the loop is left: the walk has passed n cells, and met a wall or not
-module _ (c : tie.Joined1 Inv-scale-loop μ-scale-loop) where
-  abbrev start : tie.Start Inv-scale-loop μ-scale-loop
+-- the steps inside the sector
+module _ (c : tie.After-stride) where
+  abbrev start : tie.Start
   start = c .before .before .before .before .before
 
-  ends : Sought (λ j. isWall (start .args .m) (now (start .args .scaled)) (start .args .s) (landing (start .args .i) (c .before .before .compass .result) (j + 1))) (start .args .m .scale) (c .before .scale-loop .n) (c .if1 .met)
-  ends =
-      ⊎-elim
-      (λ w. sought-no _ _ _ (w .1) (c .before .scale-loop .inv .within) (omega (arith, w .0 .taken)) (c .before .scale-loop .inv .clear))
-      (λ w. sought-yes _ _ _ (w .4) (omega (arith, w .0 .left)) (c .before .scale-loop .inv .clear) (sym (w .2 .ensures) ∙ w .3 .taken))
-      (c .if1 .came)
+  line : Line (start .args .s * 100 + start .args .i) (c .stride .result) (c .before .inside .result) (length (now (start .args .scaled)))
+  line = line-inside (start .args .s) (search needs) (omega arith) (c .stride .ensures .0) (c .before .inside .ensures .0) _ (omega arith)
 
-cast-scale : tie.Need-cast-scale Inv-scale-loop μ-scale-loop
-cast-scale c = search needs
+-- none of them meets a wall
+clear : (c : tie.Else1) → let t = c .before .before .before in let a = start t .args in Clear (wallAt (a .m) (now (a .scaled)) (a .s) (a .i) (t .before .before .compass .result)) (a .m .scale) (t .before .inside .result)
+clear c =
+    let t = c .before .before .before in
+    walk-clear (start t .args .s) (start t .pre .0) (search needs) (search needs) (omega arith) (t .stride .ensures .0) (t .before .inside .ensures .0) (omega arith) (c .before .open-steps .ensures) (omega arith)
 
-compass-requires : tie.Need-compass-requires Inv-scale-loop μ-scale-loop
+wide-requires : tie.Need-wide-requires
+wide-requires c κs = search needs
+
+compass-requires : tie.Need-compass-requires
 compass-requires c κs = search needs
 
-scale-loop-holds : tie.Need-scale-loop-holds Inv-scale-loop μ-scale-loop
-scale-loop-holds c = search (needs, seeking)
+inside-requires : tie.Need-inside-requires
+inside-requires c κs = search needs
 
-meets-wall-requires : tie.Need-meets-wall-requires Inv-scale-loop μ-scale-loop
-meets-wall-requires c κs = search needs
+mul-at : tie.Need-mul-at
+mul-at c = search needs
 
-add-n : tie.Need-add-n Inv-scale-loop μ-scale-loop
-add-n c = search needs
+add-at : tie.Need-add-at
+add-at c = search needs
 
-scale-loop-less : tie.Need-scale-loop-less Inv-scale-loop μ-scale-loop
-scale-loop-less c = search needs
+stride-requires : tie.Need-stride-requires
+stride-requires c κs = search needs
 
-scale-loop-again : tie.Need-scale-loop-again Inv-scale-loop μ-scale-loop
-scale-loop-again c = search (needs, seeking)
+open-steps-requires : tie.Need-open-steps-requires
+open-steps-requires c κs = let l = line (c .before) in search needs
 
-block-passed-requires : tie.Need-block-passed-requires Inv-scale-loop μ-scale-loop
-block-passed-requires c κs = search needs
+block-steps-requires : tie.Need-block-steps-requires
+block-steps-requires c κs =
+    let o = c .before .before in
+    let l = line-before (o .open-steps .result) (omega arith) (line (o .before .before)) in
+    search needs
 
-same-length : tie.Need-same-length Inv-scale-loop μ-scale-loop
+same-length : tie.Need-same-length
 same-length c = search needs
 
-returns : tie.Need-returns Inv-scale-loop μ-scale-loop
-unfolding walk passes blockPassed
+returns : tie.Need-returns
 returns c =
-    let p = c .before .before in
-    let t = p .before .before in
-    let e = ends (t .before) in
-    simp (← t .before .before .before .compass .ensures, e .at, e .test, t .if3 .taken, p .block-passed .ensures)
+    let b = c .before .before in
+    let o = b .before .before .before in
+    let t = o .before .before in
+    let m = walk-met (start t .args .s) (start t .pre .0) (search needs) (search needs) (omega arith) (t .stride .ensures .0) (t .before .inside .ensures .0) (omega arith) (o .open-steps .ensures) (search needs) in
+    b .block-steps .ensures ∙ m ∙ walk-is _ _ _ _ _ (t .before .before .compass .ensures)
 
-returns-2 : tie.Need-returns-2 Inv-scale-loop μ-scale-loop
-unfolding walk passes blockPassed
-returns-2 c = let e = ends (c .before) in simp (← c .before .before .before .compass .ensures, e .at, e .test, c .if3 .left)
+scale-onward-requires : tie.Need-scale-onward-requires
+scale-onward-requires c κs = let h = clear (c .before .before) in search needs
+
+same-length-2 : tie.Need-same-length-2
+same-length-2 c = search needs
+
+returns-2 : tie.Need-returns-2
+returns-2 c =
+    let b = c .before .before in
+    b .scale-onward .ensures ∙ walk-is _ _ _ _ _ (b .before .before .before .before .before .before .before .before .compass .ensures)
+
+same-length-3 : tie.Need-same-length-3
+same-length-3 c = search needs
+
+returns-3 : tie.Need-returns-3
+returns-3 c = walk-none _ _ _ _ _ (clear (c .before)) (omega arith) ∙ walk-is _ _ _ _ _ (c .before .before .before .before .before .before .compass .ensures)
 
 pub scale-in-compass-direction-spec : {M : Type 1} → statement M
 scale-in-compass-direction-spec =
     tie.close
     (tie.spec
-    Inv-scale-loop
-    μ-scale-loop
-    cast-scale
+    wide-requires
     compass-requires
-    scale-loop-holds
-    meets-wall-requires
-    add-n
-    scale-loop-less
-    scale-loop-again
-    block-passed-requires
+    inside-requires
+    mul-at
+    add-at
+    stride-requires
+    open-steps-requires
+    block-steps-requires
     same-length
     returns
-    returns-2)
+    scale-onward-requires
+    same-length-2
+    returns-2
+    same-length-3
+    returns-3)

@@ -1,0 +1,29 @@
+-- `stride` is at most 22, so that no sum with it wraps.
+use Rattle.fields.specs.Bounds.{eastward-small, southward-small}
+use borrow.Author.Needs.{needs}
+use Rattle.sector_cost.proofs.inside.stride.Statement.{statement}
+use Rattle.sector_cost.proofs.inside.stride.Tie as tie
+
+eastward-requires : tie.Need-eastward-requires
+eastward-requires c κs = search needs
+
+southward-requires : tie.Need-southward-requires
+southward-requires c κs = search needs
+
+mul-result : tie.Need-mul-result
+mul-result c = let f = southward-small (c .before .before .args .d) in search needs
+
+add-result : tie.Need-add-result
+add-result c =
+    let e = eastward-small (c .before .before .args .d) in
+    let f = southward-small (c .before .before .args .d) in
+    search needs
+
+returns : tie.Need-returns
+returns c =
+    let e = eastward-small (c .before .before .args .d) in
+    let f = southward-small (c .before .before .args .d) in
+    search needs
+
+pub stride-spec : {M : Type 1} → statement M
+stride-spec = tie.close (tie.spec eastward-requires southward-requires mul-result add-result returns)
