@@ -41,6 +41,12 @@ tabulate-more f n = rw add-one (from n 0 ∙ ap (λ k. tabulate f n 0 ++ (f k �
     from zero i = rw add-zero
     from (suc n) i = ap (λ l. f i ∷ l) (from n (suc i)) ∙ rw (suc-add, add-suc)
 
+-- a rule that is another one place further on
+pub tabulate-past : {A : Type 0} (f g : ℕ → A) → ((k : ℕ) → f (suc k) ≡ g k) → (n i : ℕ) → tabulate f n (suc i) ≡ tabulate g n i
+unfolding tabulate
+tabulate-past f g e zero i = refl
+tabulate-past f g e (suc n) i = ap (λ x. x ∷ tabulate f n (suc (suc i))) (e i) ∙ ap (λ l. g i ∷ l) (tabulate-past f g e n (suc i))
+
 -- inside a list it does not matter what is read past its end
 pub getD-default : (l : List ℕ) (n a b : ℕ) → n < length l → getD l n a ≡ getD l n b
 getD-default [] n a b h = absurd (not-suc-le-zero h)

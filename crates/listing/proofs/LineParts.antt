@@ -5,14 +5,15 @@ use Prim.Native.Nat.{ℕ, _+_, _*_, _≤_, _<_}
 use native.Mathlib.Omega.{arith}
 use borrow.Author.Tests.{lt-ltb, le-ltb}
 use lib.ListN.{length, drop}
-use Rattle.laws.specs.Table.{tabulate, tabulate-more}
+use Rattle.laws.specs.Table.{tabulate}
 use Rattle.model.specs.declared.RouteStep.{RouteStep}
 use Rattle.model.specs.declared.Routed.{Routed}
 use Rattle.model.specs.declared.Routed.the-variants.{Route, NoRoute, Refused}
+use Rattle.model.specs.FlatSteps.{stepIn, stepsIn, no-steps-in, steps-in-more}
 use Rattle.model.specs.Calls.{routedSteps}
 use Rattle.model.specs.Listing.{text, decimal, sideLetter, windowText, stepText, stepsText}
 use Rattle.listing.specs.Written.{Wrote, wrote-none, wrote-on, wrote-length, wrote-same, wrote-first}
-use Rattle.listing.specs.Line.{stepIn, stepsIn, routeText, routedText}
+use Rattle.listing.specs.Line.{routeText, routedText}
 
 -- ---- a step's window
 module _ {a z : ℕ} {xs ys : List ℕ} (s : RouteStep) where
@@ -33,8 +34,8 @@ steps-append [] r = refl
 steps-append (x ∷ s) r = ap (λ l. stepText x ++ l) (steps-append s r) ∙ sym (append-assoc (stepText x) (stepsText s) (stepsText r))
 
 steps-more : (flat : List ℕ) (k : ℕ) → stepsText (stepsIn k flat) ++ stepText (stepIn flat k) ≡ stepsText (stepsIn (k + 1) flat)
-unfolding stepsIn stepsText
-steps-more flat k = rw (tabulate-more (stepIn flat) k, steps-append, append-nil)
+unfolding stepsText
+steps-more flat k = rw (steps-in-more, steps-append, append-nil)
 
 pub record Stepped (flat : List ℕ) (a steps k z : ℕ) (xs t : List ℕ) : Type 0 where
   pub within : k ≤ steps
@@ -43,8 +44,8 @@ pub record Stepped (flat : List ℕ) (a steps k z : ℕ) (xs t : List ℕ) : Typ
   pub wrote : Wrote (stepsText (stepsIn k flat)) a z xs t
 
 pub step-none : (flat : List ℕ) (a steps : ℕ) (xs : List ℕ) → a + 20 * steps ≤ length xs → Stepped flat a steps 0 a xs xs
-unfolding stepsIn stepsText tabulate
-step-none flat a steps xs h = record { within = omega arith; same = refl; short = omega arith; wrote = wrote-none a xs (omega arith) }
+unfolding stepsText
+step-none flat a steps xs h = record { within = omega arith; same = refl; short = omega arith; wrote = rw no-steps-in (wrote-none a xs (omega arith)) }
 
 pub step-turn : {flat : List ℕ} {a steps k z w : ℕ} {xs t u : List ℕ} {s : RouteStep} → Stepped flat a steps k z xs t → k < steps → s ≡ stepIn flat k → Wrote (stepText s) z w t u → w ≤ z + 20 → Stepped flat a steps (k + 1) w xs u
 step-turn {flat} {a} {steps} {k} {z} {w} {xs} {t} {u} r h e v l =

@@ -12,6 +12,7 @@ use Rattle.model.specs.Cells.{beside}
 use Rattle.model.specs.Costs.{openAt}
 use Rattle.model.specs.Sectors.{across, down, beyond, hasBeyond}
 use Rattle.model.specs.Steps.{flatSteps}
+use Rattle.model.specs.FlatSteps.{stepsIn}
 use Rattle.model.specs.Directions.{landing, onFloor}
 use Rattle.model.specs.Measuring.{cutDown, roundUp}
 use Rattle.model.specs.Scaling.{isWall, passes, blockStep, blockPassed, walk, scaleCell, scaleSector, scaleFloor}
@@ -27,5 +28,5 @@ use Rattle.model.specs.Calls.{badSectors, badScale, orElse, ifAccepted, 
 use Rattle.model.specs.Listing.{digits, windowText, stepText, stepsText, answerText, pairText, pairLines, fileSize, hallLines, fileLines, hallroute}
 
 unfoldable pub computing : Unit {0}
-unfolding mul div lt le ofBits run bit first any passing refuse region within tabulate offers relaxed swept total sweeps outset least-costs tight better closer next path beat winner each pairs beside openAt across down beyond hasBeyond flatSteps landing onFloor cutDown roundUp isWall passes blockStep blockPassed walk scaleCell scaleSector scaleFloor move moves movesTo joined borderCells openPlace bits markOf marksOf isOpen begins begun windowCount firstPlace lastPlace crossing windowAt sideWindows isPortal midpoint midCell facing headOf outerEdge innerEdge edgeAt edgesFrom edgesOf edges portalGraph nearby isThere forNearby resetSector rescaled isNearby remarked changed exceedsAt exceeds nodeRank keysTo leastPath starts ends endOf linkedPair runOf routePairs chosenPair stepAt stepsOf throughPair throughPortals oneStep routeOf fed accountAfter accountCosts crossings u16At marksIn decode markBytes encode written putEntry baseIn badSectors badScale orElse ifAccepted measured valueNumber measureNumber planNumber planAnswer entryOff readNumber readAnswer readInto buildNumber built buildInto badMark checkNumber alterNumber changeNumber changeInto stepList foundNumber routeNumber routed routeAnswer routeSteps routeFlat windowsFrom flatWindows windowsNumber listed windowsAnswer windowsFlat storeAfterCall storeAfter digits windowText stepText stepsText answerText pairText pairLines fileSize hallLines fileLines hallroute
+unfolding mul div lt le ofBits run bit first any passing refuse region within tabulate offers relaxed swept total sweeps outset least-costs tight better closer next path beat winner each pairs beside openAt across down beyond hasBeyond flatSteps stepsIn landing onFloor cutDown roundUp isWall passes blockStep blockPassed walk scaleCell scaleSector scaleFloor move moves movesTo joined borderCells openPlace bits markOf marksOf isOpen begins begun windowCount firstPlace lastPlace crossing windowAt sideWindows isPortal midpoint midCell facing headOf outerEdge innerEdge edgeAt edgesFrom edgesOf edges portalGraph nearby isThere forNearby resetSector rescaled isNearby remarked changed exceedsAt exceeds nodeRank keysTo leastPath starts ends endOf linkedPair runOf routePairs chosenPair stepAt stepsOf throughPair throughPortals oneStep routeOf fed accountAfter accountCosts crossings u16At marksIn decode markBytes encode written putEntry baseIn badSectors badScale orElse ifAccepted measured valueNumber measureNumber planNumber planAnswer entryOff readNumber readAnswer readInto buildNumber built buildInto badMark checkNumber alterNumber changeNumber changeInto stepList foundNumber routeNumber routed routeAnswer routeSteps routeFlat windowsFrom flatWindows windowsNumber listed windowsAnswer windowsFlat storeAfterCall storeAfter digits windowText stepText stepsText answerText pairText pairLines fileSize hallLines fileLines hallroute
 computing = tt

@@ -3,6 +3,7 @@ pub mod Costs
 pub mod CostsRead
 pub mod Sectors
 pub mod Steps
+pub mod FlatSteps
 pub mod Directions
 pub mod PlainFloor
 pub mod Measuring

@@ -7,7 +7,7 @@ use native.Mathlib.Omega.{arith}
 use lib.ListN.{length, getD, set, drop, length-append, length-drop}
 use lib.Seq.{drop-cons, set-at}
 use Rattle.model.specs.declared.RouteStep.{RouteStep}
-use Rattle.route.specs.Flat.{stepIn, stepsIn, length-steps-in, no-steps-in, steps-in-more}
+use Rattle.model.specs.FlatSteps.{stepIn, stepsIn, length-steps-in, no-steps-in, steps-in-more}
 
 abbrev pub filled : List ℕ → List RouteStep → ℕ → List RouteStep
 filled flat list n = stepsIn n flat ++ drop n list

@@ -12,11 +12,11 @@ use Rattle.laws.specs.Graph.{below-or}
 use Rattle.model.specs.declared.RouteStep.{RouteStep}
 use Rattle.model.specs.declared.Routed.{Routed}
 use Rattle.model.specs.Steps.{flatSteps}
+use Rattle.model.specs.FlatSteps.{stepsIn, no-steps-in, steps-back}
 use Rattle.model.specs.Route.{Found, route, none, routeOf}
 use Rattle.model.specs.Store.{decode}
 use Rattle.model.specs.Calls.{orElse, ifAccepted, checkNumber, stepList, foundNumber, routeNumber, routed, routedSteps, routeAnswer, routeSteps, routeFlat}
 use Rattle.store.specs.Checks.{checked}
-use Rattle.route.specs.Flat.{stepsIn, no-steps-in, steps-back}
 use Rattle.records.specs.FewSteps.{few-steps}
 
 module _ (st : List ℕ) (source goal : ℕ) where

@@ -3,4 +3,3 @@ pub mod FirstPair
 pub mod PortalPaths
 pub mod Stepping
 pub mod Finding
-pub mod Flat

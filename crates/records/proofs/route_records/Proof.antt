@@ -51,8 +51,8 @@ use borrow.Table.OneValue.{part-in, part-out}
 use borrow.Rule.Slice.Shared.{parts-cells}
 use Rattle.model.specs.declared.RouteStep.{RouteStep}
 use Rattle.model.specs.declared.Routed.{Routed}
+use Rattle.model.specs.FlatSteps.{stepsIn}
 use Rattle.model.specs.Calls.{routedSteps, routeAnswer, routeSteps}
-use Rattle.route.specs.Flat.{stepsIn}
 use Rattle.records.specs.Routing.{Flatly, recorded}
 use Rattle.model.proofs.RouteStep as T
 use Rattle.model.proofs.Routed as E

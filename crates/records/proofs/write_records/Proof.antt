@@ -51,7 +51,7 @@ use denote.Triple.Clauses.{ensured, lasts}
 use denote.Triple.Table.{entered, cited}
 use denote.Triple.Walked.{says, needs, Stays, stay-slice, stay-none, stay-none-slice, walkOf, Walks, AllGo, ends-at, walked, goes-slice, goes-none, goes-none-slice, walk-meets}
 use Rattle.model.specs.declared.RouteStep.{RouteStep}
-use Rattle.route.specs.Flat.{stepIn}
+use Rattle.model.specs.FlatSteps.{stepIn}
 use Rattle.records.specs.Filling.{filled, filled-none, filled-length, filled-next}
 use Rattle.model.proofs.RouteStep as T
 use Rattle.model.proofs.RouteStep.Laws as T′

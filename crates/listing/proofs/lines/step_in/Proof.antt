@@ -1,5 +1,4 @@
 -- `lines::step_in` meets its contract: the six bytes of the step.
-use Rattle.listing.specs.Line.{stepIn}
 use borrow.Author.Needs.{needs}
 use Rattle.listing.proofs.lines.step_in.Statement.{statement}
 use Rattle.listing.proofs.lines.step_in.Tie as tie
@@ -41,7 +40,6 @@ shared-slice-read-t20 : tie.Need-shared-slice-read-t20
 shared-slice-read-t20 c = search needs
 
 returns : tie.Need-returns
-unfolding stepIn
 returns c = search needs
 
 pub step-in-spec : {M : Type 1} → statement M

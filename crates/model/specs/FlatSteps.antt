@@ -1,13 +1,13 @@
--- The steps that a flat list holds, six bytes each, and that they are those whose flat form it begins with.
+-- The flat form of steps read back: the steps that a flat list holds, six bytes each, and that they are those whose flat form it begins with.
 use mathlib.Core.Path.{_≡_, refl, ap, _∙_}
 use mathlib.Core.List.{List, [], _∷_, _++_}
-use Prim.Native.Nat.{ℕ, zero, suc, _+_, _*_}
+use Prim.Native.Nat.{ℕ, suc, _+_, _*_}
 use native.Mathlib.Omega.{arith}
 use lib.ListN.{length, getD}
 use lib.Seq.{getD-append-add}
-use Rattle.laws.specs.Table.{tabulate, length-tabulate, tabulate-more}
+use Rattle.laws.specs.Table.{tabulate, length-tabulate, tabulate-more, tabulate-past}
 use Rattle.model.specs.declared.RouteStep.{RouteStep}
 use Rattle.model.specs.Steps.{stepBytes, flatSteps}
 
 -- step k of a flat list, and its first n steps
 abbrev pub stepIn : List ℕ → ℕ → RouteStep
@@ -41,11 +41,6 @@ step-past s flat k =
     let f = e (6 * k + 4) (6 * suc k + 4) (omega arith) in
     let g = e (6 * k + 5) (6 * suc k + 5) (omega arith) in
     λ i. record { column = a i; row = b i; goal = c i; side = d i; «first» = f i; last = g i }
-
-tabulate-past : {A : Type 0} (f g : ℕ → A) → ((k : ℕ) → f (suc k) ≡ g k) → (n i : ℕ) → tabulate f n (suc i) ≡ tabulate g n i
-unfolding tabulate
-tabulate-past f g e zero i = refl
-tabulate-past f g e (suc n) i = ap (λ x. x ∷ tabulate f n (suc (suc i))) (e i) ∙ ap (λ l. g i ∷ l) (tabulate-past f g e n (suc i))
 
 -- a list that begins with the flat form of steps holds these steps
 pub steps-back : (steps : List RouteStep) (rest : List ℕ) → stepsIn (length steps) (flatSteps steps ++ rest) ≡ steps
