@@ -68,10 +68,6 @@ table-graph h = λ i. record {
 abbrev pub Filled : Hall → ℕ → List ℕ → Type 0
 Filled h n t = Tabled (λ e. portalGraph h .weight e) (sectors (h .measures) * 400) n t
 
--- a place named otherwise
-pub filled-at : {f : ℕ → ℕ} {n a b : ℕ} {t : List ℕ} → Tabled f n a t → a ≡ b → Tabled f n b t
-filled-at {f} {n} {t = t} r e = subst (λ (i : ℕ). Tabled f n i t) e r
-
 pub filled-all : (h : Hall) {n : ℕ} {t : List ℕ} → Filled h n t → sectors (h .measures) * 400 ≤ n → t ≡ edgeTable h
 unfolding edgeTable
 filled-all h f l = tabled-all f l

@@ -1,5 +1,5 @@
 -- A table whose entries are given by a rule.
-use mathlib.Core.Path.{_≡_, refl, sym, ap, _∙_}
+use mathlib.Core.Path.{_≡_, refl, sym, ap, subst, _∙_}
 use mathlib.Core.List.{List, [], _∷_, _++_}
 use Prim.Native.Nat.{ℕ, zero, suc, _+_, _<_, _≤_}
 use native.Mathlib.Nat.{add-zero, zero-add, add-suc, suc-add, le-of-suc-le-suc, not-suc-le-zero}
@@ -71,6 +71,10 @@ tabled-more {f} {n} {i} {w} {t} r l q = record { within = omega arith; long = le
 
 pub tabled-same : {f g : ℕ → ℕ} {n i : ℕ} {t : List ℕ} → Tabled f n i t → ((k : ℕ) → k < n → f k ≡ g k) → Tabled g n i t
 tabled-same r same = record { within = r .within; long = r .long; at = λ k l. r .at k l ∙ same k (omega (arith, r .within)) }
+
+-- a place named otherwise
+pub tabled-at : {f : ℕ → ℕ} {n a b : ℕ} {t : List ℕ} → Tabled f n a t → a ≡ b → Tabled f n b t
+tabled-at {f} {n} {t = t} r e = subst (λ (i : ℕ). Tabled f n i t) e r
 
 pub tabled-all : {f : ℕ → ℕ} {n i : ℕ} {t : List ℕ} → Tabled f n i t → n ≤ i → t ≡ tabulate f n 0
 tabled-all {f} {n} {i} {t} r l = ext-getD 0 t (tabulate f n 0) (r .long ∙ sym (length-tabulate f n 0)) (λ k m. r .at k (omega (arith, r .long)) ∙ sym (tabulate-at f n k 0 (omega (arith, r .long))))

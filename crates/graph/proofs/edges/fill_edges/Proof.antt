@@ -4,10 +4,10 @@ use mathlib.Core.Path.{_≡_, sym, ap, _∙_}
 use Prim.Native.Nat.{ℕ, _-_, _*_, _≤_}
 use denote.Ref.{now}
 use borrow.Author.Needs.{needs}
-use Rattle.laws.specs.Table.{tabled-none}
+use Rattle.laws.specs.Table.{tabled-none, tabled-at}
 use Rattle.model.specs.Sectors.{sectors}
 use Rattle.model.specs.Store.{decode}
-use Rattle.graph.specs.EdgeTable.{Filled, filled-at, filled-all}
+use Rattle.graph.specs.EdgeTable.{Filled, filled-all}
 use Rattle.graph.specs.Reading.{few-of, measures-are}
 use Rattle.graph.proofs.edges.fill_edges.Statement.{statement}
 use Rattle.graph.proofs.edges.fill_edges.Tie as tie
@@ -46,7 +46,7 @@ loop-less c = omega arith
 loop-again : tie.Need-loop-again Inv-loop μ-loop
 loop-again c =
     let call = c .before .before in
-    (omega (arith, call .before .before .loop-test .taken), filled-at (call .fill-sector .ensures) (omega arith))
+    (omega (arith, call .before .before .loop-test .taken), tabled-at (call .fill-sector .ensures) (omega arith))
 
 same-length : tie.Need-same-length Inv-loop μ-loop
 same-length c = c .before .loop .inv .1 .long ∙ ap (λ (k : ℕ). k * 400) (are (c .before .before)) ∙ sym (S (c .before .before) .pre .1)

@@ -4,10 +4,11 @@ use mathlib.Core.Path.{_≡_, refl, sym, ap, _∙_}
 use Prim.Native.Nat.{ℕ, _+_, _-_, _*_, _≤_}
 use lib.ListN.{length}
 use denote.Ref.{now}
+use Rattle.laws.specs.Table.{tabled-at}
 use Rattle.model.specs.Sectors.{costsOf}
 use Rattle.model.specs.Store.{decode}
 use Rattle.portal.specs.Levels.{openWords}
-use Rattle.graph.specs.EdgeTable.{Filled, filled-at}
+use Rattle.graph.specs.EdgeTable.{Filled}
 use Rattle.graph.specs.Near.{sectorMids}
 use Rattle.graph.specs.Reading.{few-of}
 use borrow.Author.Needs.{needs}
@@ -39,7 +40,7 @@ sector-words-requires : tie.Need-sector-words-requires Inv-loop μ-loop
 sector-words-requires c κs = search needs
 
 loop-holds : tie.Need-loop-holds Inv-loop μ-loop
-loop-holds c = (omega arith, filled-at (S c .pre .2) (omega arith), refl)
+loop-holds c = (omega arith, tabled-at (S c .pre .2) (omega arith), refl)
 
 mul-fill-number : tie.Need-mul-fill-number Inv-loop μ-loop
 mul-fill-number c = omega (arith, few (c .before .before))
@@ -66,7 +67,7 @@ fill-number-requires c κs =
         start .pre .0,
         omega (arith, test, start .pre .1),
         c .before .before .before .before .before .before .before .before .before .before .sector-mids .ensures ∙ ap (λ (k : ℕ). sectorMids h k) (omega (arith, test)),
-        filled-at (at .loop .inv .1) (omega arith),
+        tabled-at (at .loop .inv .1) (omega arith),
       ),
       (c .before .before .before .before .before .before .before .sector-words .ensures ∙ ap (λ (k : ℕ). openWords (costsOf (h .scaled) k)) (omega (arith, test)), at .loop .inv .2),
     )
@@ -78,13 +79,13 @@ loop-less : tie.Need-loop-less Inv-loop μ-loop
 loop-less c = omega arith
 
 loop-again : tie.Need-loop-again Inv-loop μ-loop
-loop-again c = (omega (arith, c .before .before .before .before .before .before .before .before .loop-test .taken), filled-at (c .before .before .before .fill-number .ensures) (omega arith), search needs)
+loop-again c = (omega (arith, c .before .before .before .before .before .before .before .before .loop-test .taken), tabled-at (c .before .before .before .fill-number .ensures) (omega arith), search needs)
 
 same-length : tie.Need-same-length Inv-loop μ-loop
 same-length c = c .before .loop .inv .1 .long ∙ sym (S (c .before .before) .pre .2 .long)
 
 returns : tie.Need-returns Inv-loop μ-loop
-returns c = filled-at (c .before .loop .inv .1) (omega (arith, c .before .loop .inv .0, c .loop-test .left))
+returns c = tabled-at (c .before .loop .inv .1) (omega (arith, c .before .loop .inv .0, c .loop-test .left))
 
 pub fill-sector-spec : {M : Type 1} → statement M
 fill-sector-spec =
