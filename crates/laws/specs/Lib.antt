@@ -7,6 +7,7 @@ pub mod Spans
 pub mod Ladder
 pub mod Region
 pub mod Table
+pub mod Each
 pub mod Graph
 pub mod LeastCosts
 pub mod Offers

@@ -14,6 +14,7 @@ use borrow.Author.Tests.{eqb-true, eqb-false, eq-eqb, ne-eqb}
 use Rattle.laws.specs.Fold.{pick, pick-keeps, false-ne-true, run, run-length}
 use Rattle.laws.specs.Search.{any, any-no, any-has, both}
 use Rattle.laws.specs.Table.{tabulate, length-tabulate, tabulate-at}
+use Rattle.laws.specs.Each.{each}
 use Rattle.model.specs.declared.Measures.{Measures}
 use Rattle.model.specs.Cells.{sideAt}
 use Rattle.model.specs.Sectors.{sectors, hasBeyond}
@@ -21,7 +22,6 @@ use Rattle.model.specs.Halls.{Hall}
 use Rattle.model.specs.Change.{nearby, isThere, isNearby, remarked, exceedsAt, exceeds}
 use Rattle.model.specs.Nearby.{atNearby, nearby-lt}
 use Rattle.store.specs.Hits.{Hit, seek, any-hit, same-test}
-use Rattle.parts.specs.Each.{each}
 use Rattle.parts.specs.Marks.{fresh}
 use Rattle.parts.specs.Around.{sideFresh, sectorFresh, sectorExceeds, placeExceeds}
 

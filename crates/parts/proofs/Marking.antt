@@ -5,11 +5,11 @@ use Prim.Native.Nat.{ℕ, _+_, _*_, _<_}
 use native.Mathlib.Nat.{add-zero}
 use lib.ListN.{getD, set}
 use Rattle.laws.specs.Table.{tabulate}
+use Rattle.laws.specs.Each.{each}
 use Rattle.model.specs.declared.Measures.{Measures}
 use Rattle.model.specs.Sectors.{sectors, cells}
 use Rattle.model.specs.Store.{u16At, marksIn}
 use Rattle.model.specs.StoreLayout.{mark-at}
-use Rattle.parts.specs.Each.{each}
 use Rattle.parts.specs.Marks.{sectorMarks, kept}
 
 pub mark-is : (m : Measures) (st : List ℕ) (k : ℕ) {n r : ℕ} → k < sectors m * 4 → n ≡ cells m → r ≡ u16At st (4 + 2 * n + 2 * k) → r ≡ getD (marksIn m st) k 0

@@ -4,11 +4,11 @@ use mathlib.Core.List.{List}
 use Prim.Native.Nat.{ℕ, _+_, _*_}
 use Rattle.laws.specs.Fold.{run}
 use Rattle.laws.specs.Search.{any}
+use Rattle.laws.specs.Each.{each}
 use Rattle.model.specs.declared.Measures.{Measures}
 use Rattle.model.specs.Cells.{sideAt}
 use Rattle.model.specs.Halls.{Hall}
 use Rattle.model.specs.Change.{nearby, isThere, exceedsAt}
-use Rattle.parts.specs.Each.{each}
 use Rattle.parts.specs.Marks.{fresh}
 
 -- side i of sector s marked as the costs give, and all four

@@ -1,4 +1,3 @@
 pub mod Around
-pub mod Each
 pub mod Marks
 pub mod Parts

@@ -2,11 +2,11 @@
 ghost use mathlib.Core.Path.{_≡_};
 ghost use Prim.Native.Nat.{_*_, _≤_, _<_};
 ghost use lib.ListN.{length, getD};
+ghost use Rattle.laws.specs.Each.{each};
 ghost use Rattle.model.specs.Sectors.{sectors};
 ghost use Rattle.model.specs.Windows.{marksOf};
 ghost use Rattle.model.specs.Store.{sizeOf, marksIn};
 ghost use Rattle.store.specs.Checks.{Sized};
-ghost use Rattle.parts.specs.Each.{each};
 ghost use Rattle.parts.specs.Marks.{Floor, sectorMarks, kept, fresh};
 use fields::cells::side_at;
 use fields::sectors::cells;

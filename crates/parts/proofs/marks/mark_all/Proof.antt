@@ -2,9 +2,9 @@
 use Prim.Native.Nat.{_-_}
 use mathlib.Core.Path.{refl}
 use Rattle.laws.specs.Fold.{Ran, counting}
+use Rattle.laws.specs.Each.{each, each-end}
 use Rattle.model.specs.Windows.{marksOf}
 use Rattle.parts.specs.Marks.{fresh}
-use Rattle.parts.specs.Each.{each, each-end}
 use borrow.Author.Needs.{needs}
 use Rattle.parts.proofs.marks.mark_all.Statement.{statement}
 use Rattle.parts.proofs.marks.mark_all.Tie as tie

@@ -1,5 +1,5 @@
 -- `mark_side` sets mark k to what the costs give.
-use Rattle.parts.specs.Each.{each}
+use Rattle.laws.specs.Each.{each}
 use borrow.Author.Needs.{needs}
 use Rattle.parts.proofs.marks.mark_side.Statement.{statement}
 use Rattle.parts.proofs.marks.mark_side.Tie as tie
