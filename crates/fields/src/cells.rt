@@ -1,7 +1,6 @@
-// A sector's cells by index, and its sides.
+// The sides of a sector.
 ghost use mathlib.Core.Path.{_≡_};
-ghost use Prim.Native.Nat.{_<_};
-ghost use Rattle.model.specs.Cells.{sideNumber, sideAt, opposite, beside};
+ghost use Rattle.model.specs.Cells.{sideNumber, sideAt, opposite};
 use model::Side;
 
 // The sides by number: N, E, S, W.
@@ -35,18 +34,5 @@ pub fn opposite(side: Side) -> Side
         Side::East => Side::West,
         Side::South => Side::North,
         Side::West => Side::East,
-    }
-}
-
-// The cell beside cell i, or 100 where the sector ends.
-pub fn beside(i: usize, side: Side) -> usize
-    requires { ⌜ i < 100 ⌝ }
-    ensures { λ r. ⌜ r ≡ beside i side ⌝ }
-{
-    match side {
-        Side::North => if 10 <= i { i - 10 } else { 100 },
-        Side::East => if i % 10 < 9 { i + 1 } else { 100 },
-        Side::South => if i < 90 { i + 10 } else { 100 },
-        Side::West => if 0 < i % 10 { i - 1 } else { 100 },
     }
 }

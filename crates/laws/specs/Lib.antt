@@ -11,7 +11,6 @@ pub mod Each
 pub mod Graph
 pub mod LeastCosts
 pub mod Offers
-pub mod Queue
 pub mod Waiting
 pub mod FirstPath
 pub mod Tracing
