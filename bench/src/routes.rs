@@ -2,6 +2,7 @@
 //! made its graphs in its build, so they are not in its times here.
 
 use std::ops::Range;
+use std::time::Duration;
 
 use calls::best::{self, Best};
 use calls::{Judge, PortalGraph, Step};
@@ -12,10 +13,10 @@ use reference_petgraph::Hall;
 
 use crate::halls::{SEED, combs, drawn, walled};
 use crate::stores::built;
-use crate::timing::{Times, timed};
+use crate::timing::{RUN, Times, timed};
 
 /// Routes of a row.
-const ROUTES: usize = 201;
+const ROUTES: usize = 200;
 /// The steps that the lent list has room for.
 const ROOM: usize = 1001;
 /// Columns and rows of the halls that show the growth.
@@ -72,22 +73,33 @@ impl Asked {
         }
     }
 
-    /// Both sides turn about, a pair for each turn.
+    /// Both sides in runs, the library first.
     fn row(&self, case: &str, pair: impl Fn(&Floor, &mut Draw) -> (usize, usize)) {
         let mut draw = Draw::new(SEED, 0, Use::Pairs);
         let mut times = Times::default();
-        let mut list = [0; 6 * ROOM];
         let mut routes = 0;
-        for _ in 0..ROUTES {
-            let (source, goal) = pair(&self.floor, &mut draw);
-            let (answer, time) = timed(|| proved::route(&self.store, source, goal, &mut list));
-            times.proved.push(time);
-            let (steps, time) = timed(|| self.hall.route(source, goal));
-            times.rust.push(time);
-            self.hold((source, goal), answer, steps.as_deref());
-            routes += usize::from(answer.steps > 0);
+        for _ in 0..ROUTES / RUN {
+            let pairs: Vec<_> = (0..RUN).map(|_| pair(&self.floor, &mut draw)).collect();
+            let answers = self.answers(&pairs, &mut times.proved);
+            for (pair, answer) in pairs.into_iter().zip(answers) {
+                let (steps, time) = timed(|| self.hall.route(pair.0, pair.1));
+                times.rust.push(time);
+                self.hold(pair, answer, steps.as_deref());
+                routes += usize::from(answer.steps > 0);
+            }
         }
         println!("| {case} | {routes} of {ROUTES} | {} |", times.cells());
+    }
+
+    /// What the library answers, with its times.
+    fn answers(&self, pairs: &[(usize, usize)], times: &mut Vec<Duration>) -> Vec<RouteAnswer> {
+        let mut list = [0; 6 * ROOM];
+        let mut route = |&(source, goal)| {
+            let (answer, time) = timed(|| proved::route(&self.store, source, goal, &mut list));
+            times.push(time);
+            answer
+        };
+        pairs.iter().map(&mut route).collect()
     }
 
     /// Both sides have a route or neither has one, and both are of the least run.

@@ -1,6 +1,7 @@
 //! Build and change: both sides are held to the same store.
 
 use std::hint::black_box;
+use std::time::Duration;
 
 use calls::Judge;
 use cases::draw::{Draw, Use};
@@ -8,11 +9,11 @@ use cases::floor::Floor;
 use reference_petgraph::Hall;
 
 use crate::halls::{SEED, combs, drawn, sevenths};
-use crate::timing::{Times, median, timed};
+use crate::timing::{RUN, Times, median, timed};
 
-/// Turns of a build, and changes of a hall.
-const BUILDS: usize = 51;
-const CHANGES: usize = 401;
+/// Builds and changes of a row.
+const BUILDS: usize = 60;
+const CHANGES: usize = 400;
 
 pub fn print() {
     println!("| case | proved | Rust | Rust / proved | Rust, scaling alone |");
@@ -51,37 +52,55 @@ fn empty(scale: u8, floor: &Floor) -> (Vec<u8>, [u8; 3]) {
     (store, [floor.columns as u8, floor.rows as u8, scale])
 }
 
+/// Builds in runs, the library's and then the Rust's.
 fn build(case: &str, scale: u8, floor: &Floor) {
     let (mut store, measures) = empty(scale, floor);
     let (mut times, mut scaling) = (Times::default(), vec![]);
-    for _ in 0..BUILDS {
-        let (number, time) = timed(|| proved::build(measures, &floor.costs, &mut store));
-        times.proved.push(time);
-        let (mut hall, time) = timed(|| Hall::build(measures, &floor.costs));
-        times.rust.push(time);
-        scaling.push(timed(|| hall.scale_again()).1);
-        assert!(number == 0 && store == hall.store(), "{case}: other stores");
+    for _ in 0..BUILDS / RUN {
+        times.proved.extend((0..RUN).map(|_| {
+            let (number, time) = timed(|| proved::build(measures, &floor.costs, &mut store));
+            assert!(number == 0, "build is {number}");
+            time
+        }));
+        for _ in 0..RUN {
+            let (mut hall, time) = timed(|| Hall::build(measures, &floor.costs));
+            times.rust.push(time);
+            scaling.push(timed(|| hall.scale_again()).1);
+            assert!(store == hall.store(), "{case}: other stores");
+        }
     }
     println!("| {case} | {} | {:.1} µs |", times.cells(), median(scaling));
 }
 
-/// Changes in turn. The Rust panics where 01 has 22, so those are left out.
+/// Changes in runs, each made by the library and then by the Rust.
 fn change(case: &str, scale: u8, floor: &Floor) {
     let (mut store, mut hall) = built(scale, floor);
     let mut draw = Draw::new(SEED, scale.into(), Use::Changes);
     let mut times = Times::default();
     while times.proved.len() < CHANGES {
-        let cell = draw.below(floor.costs.len());
-        let cost = if store[4 + cell] == 255 { 1 } else { 255 };
-        let (number, time) = timed(|| proved::change(&mut store, cell, cost));
-        if number != 0 {
-            continue;
-        }
-        times.proved.push(time);
-        times.rust.push(timed(|| hall.set_cost(cell, cost)).1);
+        let run = accepted(&mut store, &mut draw, &mut times.proved);
+        let rust = run
+            .iter()
+            .map(|(cell, cost)| timed(|| hall.set_cost(*cell, *cost)).1);
+        times.rust.extend(rust);
+        assert!(store == hall.store(), "{case}: other stores");
     }
-    assert!(store == hall.store(), "{case}: other stores");
     println!("| {case} | {} | |", times.cells());
+}
+
+/// A run of changes that the library accepts, with their times. The Rust panics where 01 has 22, so those are left out.
+fn accepted(store: &mut [u8], draw: &mut Draw, times: &mut Vec<Duration>) -> Vec<(usize, u8)> {
+    let mut run = vec![];
+    while run.len() < RUN {
+        let cell = draw.below((store.len() - 4) / 208 * 100);
+        let cost = if store[4 + cell] == 255 { 1 } else { 255 };
+        let (number, time) = timed(|| proved::change(store, cell, cost));
+        if number == 0 {
+            times.push(time);
+            run.push((cell, cost));
+        }
+    }
+    run
 }
 
 /// The library alone: the Rust has no store.

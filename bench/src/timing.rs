@@ -3,6 +3,9 @@
 use std::hint::black_box;
 use std::time::{Duration, Instant};
 
+/// Calls that a side makes before the other side makes the same: so each finds its own data in the cache, as in a series of calls.
+pub const RUN: usize = 20;
+
 /// The times of both sides, call for call.
 #[derive(Default)]
 pub struct Times {
