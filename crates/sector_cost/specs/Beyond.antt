@@ -1,69 +1,102 @@
--- Landings by numbers, for the steps of a walk from the border of its sector on.
-use Prim.Native.Nat.{ℕ, suc, _+_, _-_, _*_, _/_, _%_, _≤_, _<_}
-use native.Mathlib.Nat.{le-refl, suc-mul, mul-le-mul}
+-- Steps of a walk after a landing, as long as they stay in the sector landed in.
+use Prim.Native.Nat.{ℕ, zero, suc, _+_, _*_, _/_, _%_, _≤_, _<_}
+use native.Mathlib.Nat.{add-mul}
 use native.Mathlib.Omega.{arith}
-use mathlib.Core.Path.{_≡_, refl}
-use mathlib.Core.Bool.{Bool, true, not, _&&_}
+use mathlib.Core.Path.{_≡_, refl, sym, ap, _∙_}
+use mathlib.Core.Bool.{Bool, true, false, not}
 use mathlib.Core.List.{List}
-use lib.Dec.{leb}
-use lib.ListN.{set}
-use borrow.Author.Tests.{leb-true}
-use Rattle.laws.specs.Fold.{pick}
-use Rattle.laws.specs.Search.{both}
+use Rattle.laws.specs.Fold.{pick, false-ne-true}
+use Rattle.laws.specs.Search.{first, first-at, Clear, clear-turn}
 use Rattle.model.specs.declared.Measures.{Measures}
 use Rattle.model.specs.declared.Landing.{Landing}
 use Rattle.model.specs.declared.CompassDir.{CompassDir}
 use Rattle.model.specs.Costs.{openAt}
-use Rattle.model.specs.Sectors.{sectors, sectorNumber, columnOf, rowOf, floorNumber}
-use Rattle.model.specs.Directions.{eastward, southward, stepped, landing, onAxis, onFloor}
-use Rattle.model.specs.Scaling.{isWall, blockStep}
-use Rattle.sector_cost.specs.Inside.{wallAt}
+use Rattle.model.specs.Sectors.{floorNumber}
+use Rattle.model.specs.Directions.{eastward, southward, stepped, landing, shifted, onFloor}
+use Rattle.model.specs.Scaling.{isWall}
+use Rattle.fields.specs.Bounds.{landing-index}
+use Rattle.sector_cost.specs.Lines.{blockedOn, Until}
+use Rattle.sector_cost.specs.Inside.{Stays, Inside, inside-before, stride, line-number, wallAt}
 
--- the landing at place x across and y down, of the thirty each way that the sectors around have
-abbrev pub landingAt : ℕ → ℕ → Landing
-landingAt x y = record { index = y % 10 * 10 + x % 10; east = x / 10; south = y / 10 }
+-- the floor number of a landing from sector s
+abbrev pub landedAt : Measures → ℕ → Landing → ℕ
+landedAt m s l = floorNumber (shifted m s (l .east) (l .south)) (l .index)
 
--- n steps from cell i that do e and f to column and row
-abbrev pub landingBy : ℕ → ℕ → ℕ → ℕ → Landing
-landingBy i e f n = landingAt (stepped (i % 10) e n) (stepped (i / 10) f n)
+-- j steps more on an axis, inside the ten places that n steps led to
+module _ (c e n j : ℕ) (on : c ≤ 9) (few : n ≤ 9) (h : Stays (stepped c e n % 10) e j) where
+  axis-sector : stepped c e (n + j) / 10 ≡ stepped c e n / 10
+  axis-sector = omega (arith, h .low, h .high, add-mul n j e)
 
-abbrev pub wallBy : Measures → List ℕ → ℕ → ℕ → ℕ → ℕ → ℕ → Bool
-wallBy m xs s i e f k = isWall m xs s (landingBy i e f (k + 1))
+  axis-place : stepped c e (n + j) % 10 ≡ stepped (stepped c e n % 10) e j % 10
+  axis-place = omega (arith, h .low, h .high, add-mul n j e)
 
-abbrev pub blockBy : ℕ → ℕ → ℕ → ℕ → ℕ → List ℕ → List ℕ
-blockBy s i e f k xs = set xs (floorNumber s (landingBy i e f (k + 1) .index)) 255
+-- the parts of an index
+index-parts : (x y : ℕ) → ((y % 10 * 10 + x % 10) % 10 ≡ x % 10) × ((y % 10 * 10 + x % 10) / 10 ≡ y % 10)
+index-parts x y = (omega arith, omega arith)
 
-module _ (d : CompassDir) {e f : ℕ} (p : e ≡ eastward d) (q : f ≡ southward d) where
-  pub walls-by : (m : Measures) (xs : List ℕ) (s i : ℕ) → wallBy m xs s i e f ≡ wallAt m xs s i d
+module _ (i : ℕ) (d : CompassDir) (n j : ℕ) (on : i < 100) (few : n ≤ 9) (h : Inside (landing i d n .index) d j) where
+  across : Stays (stepped (i % 10) (eastward d) n % 10) (eastward d) j
   unfolding landing
-  walls-by m xs s i = rw (p, q)
+  across = rw (index-parts (stepped (i % 10) (eastward d) n) (stepped (i / 10) (southward d) n) .0) at (h .across)
 
-  pub blocks-by : (s i : ℕ) → blockBy s i e f ≡ blockStep s i d
-  unfolding landing blockStep
-  blocks-by s i = rw (p, q)
+  down : Stays (stepped (i / 10) (southward d) n % 10) (southward d) j
+  unfolding landing
+  down = rw (index-parts (stepped (i % 10) (eastward d) n) (stepped (i / 10) (southward d) n) .1) at (h .down)
 
--- whether a sector with these numbers, plus one, for column and row is on the floor
-abbrev pub isOn : Measures → ℕ → ℕ → Bool
-isOn m column row = onAxis column (m .columns) && onAxis row (m .rows)
+  after-east : landing i d (n + j) .east ≡ landing i d n .east
+  unfolding landing
+  after-east = axis-sector (i % 10) (eastward d) n j (omega arith) few across
 
--- a wall by the column and the row of the sector that the walk begins in
-abbrev pub wallFrom : Measures → List ℕ → ℕ → ℕ → ℕ → ℕ → Bool
-wallFrom m xs column row x y =
-    pick (isOn m (column + x / 10) (row + y / 10))
-    (not (openAt xs (floorNumber (sectorNumber m (column + x / 10 - 1) (row + y / 10 - 1)) (y % 10 * 10 + x % 10)))) true
+  after-south : landing i d (n + j) .south ≡ landing i d n .south
+  unfolding landing
+  after-south = axis-sector (i / 10) (southward d) n j (omega arith) few down
 
-pub wall-from : (m : Measures) (xs : List ℕ) (s : ℕ) (x y : ℕ) → wallFrom m xs (columnOf m s) (rowOf m s) x y ≡ isWall m xs s (landingAt x y)
-unfolding isWall onFloor
-wall-from m xs s x y = refl
+  after-index : landing i d (n + j) .index ≡ landing (landing i d n .index) d j .index
+  unfolding landing
+  after-index =
+      let p = index-parts (stepped (i % 10) (eastward d) n) (stepped (i / 10) (southward d) n) in
+      rw (p .0, p .1, axis-place (i % 10) (eastward d) n j (omega arith) few across, axis-place (i / 10) (southward d) n j (omega arith) few down)
 
-pub sector-lt : (m : Measures) (column row : ℕ) → column < m .columns → row < m .rows → sectorNumber m column row < sectors m
-sector-lt m column row l k =
-    let room : suc column * m .rows ≤ sectors m = mul-le-mul l (le-refl (m .rows)) in
-    omega (arith, suc-mul column (m .rows))
+-- a landing that is no wall is on the floor
+pub open-floor : (m : Measures) (xs : List ℕ) (s : ℕ) (l : Landing) → isWall m xs s l ≡ false → onFloor m s (l .east) (l .south) ≡ true
+unfolding isWall
+open-floor m xs s l h = go (onFloor m s (l .east) (l .south)) (not (openAt xs (landedAt m s l))) h
+  where
+    go : (b w : Bool) → pick b w true ≡ false → b ≡ true
+    go true w e = refl
+    go false w e = absurd (false-ne-true (sym e))
 
-pub is-on : (m : Measures) (column row : ℕ) → isOn m column row ≡ true → (1 ≤ column) × (column ≤ m .columns) × (1 ≤ row) × (row ≤ m .rows)
-is-on m column row h =
-    let t = both (onAxis column (m .columns)) (onAxis row (m .rows)) h in
-    let x = both (leb 1 column) (leb column (m .columns)) (t .0) in
-    let y = both (leb 1 row) (leb row (m .rows)) (t .1) in
-    (leb-true _ _ (x .0), leb-true _ _ (x .1), leb-true _ _ (y .0), leb-true _ _ (y .1))
+-- another landing in the same sector
+wall-same : (m : Measures) (xs : List ℕ) (s : ℕ) (l k : Landing) → onFloor m s (l .east) (l .south) ≡ true → k .east ≡ l .east → k .south ≡ l .south → isWall m xs s k ≡ not (openAt xs (floorNumber (shifted m s (l .east) (l .south)) (k .index)))
+unfolding isWall
+wall-same m xs s l k on p q = rw (p, q, on)
+
+-- r steps more that meet nothing
+clear-more : (p : ℕ → Bool) (n k r : ℕ) → Clear p n k → k + r ≤ n → ((j : ℕ) → j < r → p (k + j) ≡ false) → Clear p n (k + r)
+clear-more p n k zero c l h = let e : k + 0 ≡ k = omega arith in rw e c
+clear-more p n k (suc r) c l h =
+    let e : k + suc r ≡ k + r + 1 = omega arith in
+    rw e (clear-turn (clear-more p n k r c (omega arith) (λ j m. h j (omega arith))) (omega arith) refl (h r (omega arith)))
+
+-- n steps led to landing l, which is no wall, and more steps stay in its sector
+module _ (m : Measures) (xs : List ℕ) (s i : ℕ) (d : CompassDir) (n : ℕ) {step more r : ℕ} {l : Landing} (at : l ≡ landing i d n) (cell : i < 100) (few : n + more ≤ 9) (is : step ≡ stride d) (free : isWall m xs s l ≡ false) (h : Inside (l .index) d more) (u : Until (blockedOn xs (landedAt m s l) step) more r) where
+  same : (j : ℕ) → j < more → wallAt m xs s i d (n + j) ≡ blockedOn xs (landedAt m s l) step j
+  same j k =
+      let small : l .index < 100 = rw at (landing-index i d n cell (omega arith)) in
+      let g : Inside (landing i d n .index) d (j + 1) = rw at at (inside-before (j + 1) small (omega arith) h) in
+      let e : n + j + 1 ≡ n + (j + 1) = omega arith in
+      let k' = landing i d (n + (j + 1)) in
+      let on = open-floor m xs s l free in
+      let east : k' .east ≡ l .east = after-east i d n (j + 1) cell (omega arith) g ∙ sym (ap (λ (z : Landing). z .east) at) in
+      let south : k' .south ≡ l .south = after-south i d n (j + 1) cell (omega arith) g ∙ sym (ap (λ (z : Landing). z .south) at) in
+      let index : k' .index ≡ landing (l .index) d (j + 1) .index = after-index i d n (j + 1) cell (omega arith) g ∙ sym (ap (λ (z : Landing). landing (z .index) d (j + 1) .index) at) in
+      let number = line-number (shifted m s (l .east) (l .south)) small (omega arith) is h (j + 1) (omega arith) in
+      ap (λ z. isWall m xs s (landing i d z)) e ∙ wall-same m xs s l k' on east south ∙ ap (λ z. not (openAt xs (floorNumber (shifted m s (l .east) (l .south)) z))) index ∙ ap (λ z. not (openAt xs z)) (sym number)
+
+  -- the steps before a blocked cell
+  pub after-clear : Clear (wallAt m xs s i d) (m .scale) n → n + r ≤ m .scale → Clear (wallAt m xs s i d) (m .scale) (n + r)
+  after-clear c room = clear-more (wallAt m xs s i d) (m .scale) n r c room (λ j l. same j (omega (arith, u .within)) ∙ u .clear j l)
+
+  -- and the blocked cell
+  pub after-met : Clear (wallAt m xs s i d) (m .scale) n → n + more ≤ m .scale → r < more → first (wallAt m xs s i d) (m .scale) ≡ n + r
+  after-met c room l = first-at (wallAt m xs s i d) (m .scale) (n + r) (omega arith) (after-clear c (omega arith) .clear) (same r l ∙ u .met l)

@@ -5,15 +5,17 @@ pub mod nearby;
 
 ghost use mathlib.Core.Path.{_≡_};
 ghost use Prim.Native.Nat.{_+_, _*_, _≤_, _<_};
-ghost use lib.ListN.{length};
+ghost use lib.ListN.{length, set};
 ghost use Rattle.laws.specs.Fold.{run};
+ghost use Rattle.laws.specs.Search.{Clear};
 ghost use Rattle.model.specs.Costs.{openAt};
-ghost use Rattle.model.specs.Sectors.{sectors};
-ghost use Rattle.model.specs.Scaling.{walk, scaleCell, scaleSector, scaleFloor};
+ghost use Rattle.model.specs.Sectors.{sectors, floorNumber};
+ghost use Rattle.model.specs.Scaling.{isWall, passes, blockStep, blockPassed, walk, scaleCell, scaleSector, scaleFloor};
 ghost use Rattle.model.specs.Change.{resetSector, rescaled};
-ghost use Rattle.sector_cost.specs.Costs.{Costs};
+ghost use Rattle.sector_cost.specs.Costs.{Costs, Landed};
+ghost use Rattle.sector_cost.specs.Inside.{wallAt};
 ghost use Rattle.model.specs.Nearby.{atNearby};
-use crate::beyond::scale_onward;
+use crate::beyond::passes_from;
 use crate::inside::block_steps;
 use crate::inside::inside;
 use crate::inside::open_steps;
@@ -21,8 +23,13 @@ use crate::inside::stride;
 use crate::nearby::is_there;
 use crate::nearby::nearby;
 use fields::directions::compass;
+use fields::directions::landing;
+use fields::directions::on_floor;
+use fields::directions::shifted;
 use fields::numbers::wide;
 use fields::sectors::sectors;
+use model::CompassDir;
+use model::Landing;
 use model::Measures;
 
 // Whether a cell of the floor is open.
@@ -31,6 +38,60 @@ pub fn is_open(costs: &[u8], n: usize) -> bool
     ensures { λ r. ⌜ r ≡ openAt (now (costs .entry)) n ⌝ }
 {
     costs[n] != 255
+}
+
+// Whether a landing from sector s is past the end of the floor, or on a blocked cell.
+pub fn is_wall(m: Measures, scaled: &[u8], s: usize, l: Landing) -> bool
+    requires { ⌜ Costs m (now scaled) × (s < sectors m) × Landed l ⌝ }
+    ensures { λ r. ⌜ r ≡ isWall m (now (scaled .entry)) s l ⌝ }
+{
+    let east = l.east as usize;
+    let south = l.south as usize;
+    if on_floor(m, s, east, south) {
+        let at = shifted(m, s, east, south) * 100 + l.index as usize;
+        return !is_open(scaled, at);
+    }
+    true
+}
+
+// Blocks a landing's index, in sector s and not in the one landed in.
+fn block_cell(s: usize, l: Landing, scaled: &mut [u8])
+    requires { ⌜ (s * 100 + 100 ≤ length (now scaled)) × Landed l ⌝ }
+    ensures { λ _. ⌜ now (scaled .exit) ≡ set (now (scaled .entry)) (floorNumber s (l .index)) 255 ⌝ }
+{
+    let at = s * 100 + l.index as usize;
+    scaled[at] = 255;
+}
+
+// Blocks what step k + 1 of a walk from cell i of sector s passed.
+fn block_step(s: usize, i: usize, d: CompassDir, k: usize, scaled: &mut [u8])
+    requires { ⌜ (s * 100 + 100 ≤ length (now scaled)) × (i < 100) × (k < 9) ⌝ }
+    ensures { λ _. ⌜ now (scaled .exit) ≡ blockStep s i d k (now (scaled .entry)) ⌝ }
+{
+    block_cell(s, landing(i, d, k + 1), scaled);
+}
+
+// Blocks what the first n steps of a walk passed.
+fn block_passed(s: usize, i: usize, d: CompassDir, n: usize, scaled: &mut [u8])
+    requires { ⌜ (s * 100 + 100 ≤ length (now scaled)) × (i < 100) × (n ≤ 9) ⌝ }
+    ensures { λ _. ⌜ now (scaled .exit) ≡ run (blockStep s i d) n (now (scaled .entry)) ⌝ }
+{
+    let mut k = 0;
+    while k < n {
+        block_step(s, i, d, k, scaled);
+        k += 1;
+    }
+}
+
+// The rest of a walk whose first n steps meet no wall.
+fn scale_onward(m: Measures, s: usize, i: usize, d: CompassDir, n: usize, scaled: &mut [u8])
+    requires { ⌜ Costs m (now scaled) × (s < sectors m) × (i < 100) × Clear (wallAt m (now scaled) s i d) (m .scale) n ⌝ }
+    ensures { λ _. ⌜ now (scaled .exit) ≡ blockPassed m s i d (passes m (now (scaled .entry)) s i d) (now (scaled .entry)) ⌝ }
+{
+    let passed = passes_from(m, scaled, s, i, d, n);
+    if passed < wide(m.scale) {
+        block_passed(s, i, d, passed, scaled);
+    }
 }
 
 // A walk of up to scale steps from cell i of sector s, in direction k: only if it meets a wall are the cells passed blocked.

@@ -1,104 +1,139 @@
--- `passes_from` stops where the search for a wall does.
-use Prim.Native.Nat.{ℕ, _-_, _≤_}
+-- `passes_from` stops where the search for a wall does: a landing is tested by itself, and the steps after it on a line.
+use Prim.Native.Nat.{_+_, _-_, _≤_}
 use mathlib.Core.Path.{_≡_, sym, ap, _∙_}
-use mathlib.Core.Bool.{Bool}
+use mathlib.Core.Bool.{false}
 use native.Mathlib.Omega.{arith}
-use native.Mathlib.Nat.{div-le-self, mod-le}
+use lib.ListN.{length}
 use denote.Ref.{now}
-use Rattle.laws.specs.Search.{first, first-at, first-none, Clear, clear-turn}
+use Rattle.laws.specs.Search.{first-at, first-none, Clear, clear-turn}
 use Rattle.model.specs.Scaling.{isWall, passes}
-use Rattle.fields.specs.Bounds.{eastward-small, southward-small}
-use Rattle.sector_cost.specs.Beyond.{landingAt, wallBy, walls-by, wall-from}
+use Rattle.model.specs.Nearby.{shifted-lt}
+use Rattle.sector_cost.specs.Costs.{landed}
+use Rattle.sector_cost.specs.Lines.{Line}
+use Rattle.sector_cost.specs.Inside.{line-inside, wallAt}
+use Rattle.sector_cost.specs.Beyond.{landedAt, open-floor, after-clear, after-met}
 use borrow.Author.Needs.{needs}
 use Rattle.sector_cost.proofs.beyond.passes_from.Statement.{statement}
 use Rattle.sector_cost.proofs.beyond.passes_from.Tie as tie
 
 abbrev Inv-loop : tie.InvT-loop
-Inv-loop m scaled s i n scale rows column row east south k₀ k = Clear (wallBy m scaled s i east south) (m .scale) k
+Inv-loop m scaled s i d n scale step k₀ k = Clear (wallAt m scaled s i d) (m .scale) k
 
 abbrev μ-loop : tie.MeasureT-loop
-μ-loop m scaled s i n scale rows column row east south k₀ k = m .scale - k
+μ-loop m scaled s i d n scale step k₀ k = m .scale - k
 
-abbrev start : tie.After-southward Inv-loop μ-loop → tie.Start Inv-loop μ-loop
-start c = c .before .before .before .before .before
+abbrev start : tie.At-loop Inv-loop μ-loop → tie.Start Inv-loop μ-loop
+start c = c .before .before .before .before
 
-east-small : (c : tie.After-southward Inv-loop μ-loop) → c .before .eastward .result ≤ 2
-east-small c = omega (arith, c .before .eastward .ensures, eastward-small (start c .args .d))
-
-south-small : (c : tie.After-southward Inv-loop μ-loop) → c .southward .result ≤ 2
-south-small c = omega (arith, c .southward .ensures, southward-small (start c .args .d))
-
--- what is read at the landing of a step is whether it meets a wall
-wall : (c : tie.After-is-wall Inv-loop μ-loop) → let l = c .before .before .before .before in let t = l .before in let a = start t .args in c .is-wall .result ≡ wallBy (a .m) (now (a .scaled)) (a .s) (a .i) (t .before .eastward .result) (t .southward .result) (l .loop .k)
+-- whether the landing is a wall
+wall : (c : tie.After-is-wall Inv-loop μ-loop) → let l = c .before .before .before in let a = start l .args in c .is-wall .result ≡ wallAt (a .m) (now (a .scaled)) (a .s) (a .i) (a .d) (l .loop .k)
 wall c =
-    let a = start (c .before .before .before .before .before) .args in
-    let w : ℕ → ℕ → Bool = λ x y. isWall (a .m) (now (a .scaled)) (a .s) (landingAt x y) in
-    c .is-wall .ensures ∙ wall-from (a .m) (now (a .scaled)) (a .s) _ _ ∙ ap (λ x. w x (c .before .stepped2 .result)) (c .before .before .stepped .ensures .0) ∙ ap (w _) (c .before .stepped2 .ensures .0)
+    let a = start (c .before .before .before) .args in
+    c .is-wall .ensures ∙ ap (isWall (a .m) (now (a .scaled)) (a .s)) (c .before .landing .ensures)
 
--- the search by numbers is that by the direction
-found : (c : tie.After-southward Inv-loop μ-loop) {k : ℕ} → let a = start c .args in first (wallBy (a .m) (now (a .scaled)) (a .s) (a .i) (c .before .eastward .result) (c .southward .result)) (a .m .scale) ≡ k → k ≡ passes (a .m) (now (a .scaled)) (a .s) (a .i) (a .d)
-unfolding passes
-found c e =
-    let a = start c .args in
-    sym e ∙ ap (λ p. first p (a .m .scale)) (walls-by (a .d) (c .before .eastward .ensures) (c .southward .ensures) (a .m) (now (a .scaled)) (a .s) (a .i))
+-- where it is none
+module _ (c : tie.Else1 Inv-loop μ-loop) where
+  abbrev here : tie.At-loop Inv-loop μ-loop
+  here = c .before .before .before .before
+
+  clear : let a = start here .args in Clear (wallAt (a .m) (now (a .scaled)) (a .s) (a .i) (a .d)) (a .m .scale) (here .loop .k + 1)
+  clear = clear-turn (here .loop .inv) (search needs) (wall (c .before)) (c .if1 .left)
+
+  free : isWall (start here .args .m) (now (start here .args .scaled)) (start here .args .s) (c .before .before .landing .result) ≡ false
+  free = sym (c .before .is-wall .ensures) ∙ c .if1 .left
+
+-- the steps after it are on a line
+line : (c : tie.After-inside Inv-loop μ-loop) → let e = c .before .before in let t = start (here e) in Line (landedAt (t .args .m) (t .args .s) (e .before .before .landing .result)) (here e .before .stride .result) (c .inside .result) (length (now (t .args .scaled)))
+line c =
+    let e = c .before .before in
+    let t = start (here e) in
+    let on = shifted-lt _ _ _ _ (open-floor (t .args .m) (now (t .args .scaled)) (t .args .s) _ (free e)) in
+    let l = landed _ _ _ (e .before .before .landing .ensures) (search needs) (omega arith) in
+    line-inside _ (l .place) (omega arith) (here e .before .stride .ensures .0) (c .inside .ensures .0) _ (omega arith)
+
+-- and no more than the walk has
+room : (c : tie.After-inside Inv-loop μ-loop) → let e = c .before .before in here e .loop .k + 1 + c .inside .result ≤ start (here e) .args .m .scale
+room c = omega (arith, c .inside .ensures .2, c .before .before .before .before .before .loop-test)
+
+few : (c : tie.After-inside Inv-loop μ-loop) → here (c .before .before) .loop .k + 1 + c .inside .result ≤ 9
+few c = omega (arith, room c, start (here (c .before .before)) .pre .0 .scale)
 
 cast-scale : tie.Need-cast-scale Inv-loop μ-loop
 cast-scale c = search needs
 
-cast-rows : tie.Need-cast-rows Inv-loop μ-loop
-cast-rows c = search needs
-
-div-column : tie.Need-div-column Inv-loop μ-loop
-div-column c = search needs
-
-rem-row : tie.Need-rem-row Inv-loop μ-loop
-rem-row c = search needs
-
-eastward-requires : tie.Need-eastward-requires Inv-loop μ-loop
-eastward-requires c κs = search needs
-
-southward-requires : tie.Need-southward-requires Inv-loop μ-loop
-southward-requires c κs = search needs
+stride-requires : tie.Need-stride-requires Inv-loop μ-loop
+stride-requires c κs = search needs
 
 loop-holds : tie.Need-loop-holds Inv-loop μ-loop
-loop-holds c = let a = start c .args in rw (walls-by (a .d) (c .before .eastward .ensures) (c .southward .ensures) (a .m) (now (a .scaled)) (a .s) (a .i)) (start c .pre .3)
+loop-holds c = search needs
 
-add-stepped : tie.Need-add-stepped Inv-loop μ-loop
-add-stepped c = search needs
+add-landing : tie.Need-add-landing Inv-loop μ-loop
+add-landing c = search needs
 
-stepped-requires : tie.Need-stepped-requires Inv-loop μ-loop
-stepped-requires c κs = (omega arith, east-small (c .before .before), omega arith)
-
-add-stepped-2 : tie.Need-add-stepped-2 Inv-loop μ-loop
-add-stepped-2 c = search needs
-
-stepped-requires-2 : tie.Need-stepped-requires-2 Inv-loop μ-loop
-stepped-requires-2 c κs = (omega arith, south-small (c .before .before .before), omega arith)
+landing-requires : tie.Need-landing-requires Inv-loop μ-loop
+landing-requires c κs = search needs
 
 is-wall-requires : tie.Need-is-wall-requires Inv-loop μ-loop
-is-wall-requires c κs =
-    let a = start (c .before .before .before .before) .args in
-    (search needs, omega (arith, div-le-self (a .s) (a .m .rows)), omega (arith, mod-le (a .s) (a .m .rows)), search needs, search needs)
+is-wall-requires c κs = let l = landed _ _ _ (c .landing .ensures) (search needs) (search needs) in search needs
 
 returns : tie.Need-returns Inv-loop μ-loop
-returns c =
-    let l = c .before .before .before .before .before in
-    found (l .before) (first-at _ _ _ (omega arith) (l .loop .inv .clear) (sym (wall (c .before)) ∙ c .if1 .taken))
+unfolding passes
+returns c = sym (first-at _ _ _ (search needs) (c .before .before .before .before .loop .inv .clear) (sym (wall (c .before)) ∙ c .if1 .taken))
+
+cast-inside : tie.Need-cast-inside Inv-loop μ-loop
+cast-inside c = search needs
+
+add-inside : tie.Need-add-inside Inv-loop μ-loop
+add-inside c = search needs
+
+sub-inside : tie.Need-sub-inside Inv-loop μ-loop
+sub-inside c = search needs
+
+inside-requires : tie.Need-inside-requires Inv-loop μ-loop
+inside-requires c κs = let l = landed _ _ _ (c .before .before .before .landing .ensures) (search needs) (omega arith) in l .place
+
+open-after-requires : tie.Need-open-after-requires Inv-loop μ-loop
+open-after-requires c κs =
+    let l = landed _ _ _ (c .before .before .before .before .landing .ensures) (search needs) (omega arith) in
+    (search needs, search needs, l, omega arith, line c)
+
+add-result : tie.Need-add-result Inv-loop μ-loop
+add-result c = search needs
+
+add-result-2 : tie.Need-add-result-2 Inv-loop μ-loop
+add-result-2 c = omega (arith, c .before .open-after .ensures .within)
+
+returns-2 : tie.Need-returns-2 Inv-loop μ-loop
+unfolding passes
+returns-2 c =
+    let o = c .before in
+    let e = o .before .before .before in
+    let t = start (here e) .args in
+    sym (after-met (t .m) (now (t .scaled)) (t .s) (t .i) (t .d) (here e .loop .k + 1) (e .before .before .landing .ensures) (start (here e) .pre .2) (few (o .before)) (here e .before .stride .ensures .0) (free e) (o .before .inside .ensures .0) (o .open-after .ensures) (clear e) (room (o .before)) (search needs))
 
 add-k : tie.Need-add-k Inv-loop μ-loop
 add-k c = search needs
 
+add-k-2 : tie.Need-add-k-2 Inv-loop μ-loop
+add-k-2 c = omega arith
+
 loop-less : tie.Need-loop-less Inv-loop μ-loop
-loop-less c = search needs
+loop-less c = omega arith
 
 loop-again : tie.Need-loop-again Inv-loop μ-loop
-loop-again c = clear-turn (c .before .before .before .before .before .loop .inv) (search needs) (wall (c .before)) (c .if1 .left)
+loop-again c =
+    let o = c .before in
+    let e = o .before .before .before in
+    let t = start (here e) .args in
+    let all : o .open-after .result ≡ o .before .inside .result = omega (arith, o .open-after .ensures .within) in
+    rw all at (after-clear (t .m) (now (t .scaled)) (t .s) (t .i) (t .d) (here e .loop .k + 1) (e .before .before .landing .ensures) (start (here e) .pre .2) (few (o .before)) (here e .before .stride .ensures .0) (free e) (o .before .inside .ensures .0) (o .open-after .ensures) (clear e) (omega (arith, room (o .before), o .open-after .ensures .within)))
 
-returns-2 : tie.Need-returns-2 Inv-loop μ-loop
-returns-2 c =
+returns-3 : tie.Need-returns-3 Inv-loop μ-loop
+unfolding passes
+returns-3 c =
     let l = c .before .loop in
-    let e : start (c .before .before) .args .m .scale ≡ l .k = omega arith in
-    found (c .before .before) (first-none _ _ (λ j n. l .inv .clear j (omega arith)) ∙ e)
+    let e : start (c .before) .args .m .scale ≡ l .k = omega arith in
+    sym (first-none _ _ (λ j n. l .inv .clear j (omega arith)) ∙ e)
 
 pub passes-from-spec : {M : Type 1} → statement M
 passes-from-spec =
@@ -107,19 +142,22 @@ passes-from-spec =
     Inv-loop
     μ-loop
     cast-scale
-    cast-rows
-    div-column
-    rem-row
-    eastward-requires
-    southward-requires
+    stride-requires
     loop-holds
-    add-stepped
-    stepped-requires
-    add-stepped-2
-    stepped-requires-2
+    add-landing
+    landing-requires
     is-wall-requires
     returns
+    cast-inside
+    add-inside
+    sub-inside
+    inside-requires
+    open-after-requires
+    add-result
+    add-result-2
+    returns-2
     add-k
+    add-k-2
     loop-less
     loop-again
-    returns-2)
+    returns-3)

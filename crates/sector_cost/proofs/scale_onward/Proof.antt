@@ -4,8 +4,8 @@ use native.Mathlib.Omega.{arith}
 use borrow.Author.Tests.{lt-ltb, le-ltb}
 use Rattle.model.specs.Scaling.{blockPassed}
 use borrow.Author.Needs.{needs}
-use Rattle.sector_cost.proofs.beyond.scale_onward.Statement.{statement}
-use Rattle.sector_cost.proofs.beyond.scale_onward.Tie as tie
+use Rattle.sector_cost.proofs.scale_onward.Statement.{statement}
+use Rattle.sector_cost.proofs.scale_onward.Tie as tie
 
 passes-from-requires : tie.Need-passes-from-requires
 passes-from-requires c κs = search needs
