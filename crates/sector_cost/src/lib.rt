@@ -227,11 +227,13 @@ fn scale_nearby(m: Measures, base: &[u8], t: usize, n: usize, scaled: &mut [u8])
     }
 }
 
-// After a change in sector t: it and its up to eight surrounding sectors are reset, and only then rescaled, t first.
+// After a change in sector t: it and its up to eight surrounding sectors are reset, and only then rescaled, t first. At scale 1 no walk blocks a cell.
 pub fn rescale(m: Measures, base: &[u8], t: usize, scaled: &mut [u8])
     requires { ⌜ Costs m (now base) × Costs m (now scaled) × (t < sectors m) ⌝ }
     ensures { λ _. ⌜ now (scaled .exit) ≡ rescaled m (now (base .entry)) t (now (scaled .entry)) ⌝ }
 {
     reset_nearby(m, base, t, 9, scaled);
-    scale_nearby(m, base, t, 9, scaled);
+    if m.scale != 1 {
+        scale_nearby(m, base, t, 9, scaled);
+    }
 }

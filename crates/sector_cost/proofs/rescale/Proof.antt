@@ -1,5 +1,6 @@
--- `rescale` resets all nine places before it rescales any.
+-- `rescale` resets all nine places before it rescales any; at scale 1 they stay as they were reset.
 use Rattle.model.specs.Change.{forNearby, rescaled}
+use Rattle.sector_cost.specs.One.{rescaled-reset}
 use borrow.Author.Needs.{needs}
 use Rattle.sector_cost.proofs.rescale.Statement.{statement}
 use Rattle.sector_cost.proofs.rescale.Tie as tie
@@ -15,7 +16,21 @@ same-length c = search needs
 
 returns : tie.Need-returns
 unfolding rescaled forNearby
-returns c = let r = c .before .before in rw (r .scale-nearby .ensures, r .before .before .before .before .reset-nearby .ensures)
+returns c = let r = c .before .before in rw (r .scale-nearby .ensures, r .before .before .before .before .before .before .reset-nearby .ensures)
+
+same-length-2 : tie.Need-same-length-2
+same-length-2 c = search needs
+
+returns-2 : tie.Need-returns-2
+returns-2 c = rescaled-reset _ _ _ _ (c .if1 .left) (c .before .before .before .before .reset-nearby .ensures)
 
 pub rescale-spec : {M : Type 1} → statement M
-rescale-spec = tie.close (tie.spec reset-nearby-requires scale-nearby-requires same-length returns)
+rescale-spec =
+    tie.close
+    (tie.spec
+    reset-nearby-requires
+    scale-nearby-requires
+    same-length
+    returns
+    same-length-2
+    returns-2)
