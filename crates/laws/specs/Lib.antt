@@ -3,6 +3,7 @@ pub mod Fold
 pub mod Fill
 pub mod Choice
 pub mod Search
+pub mod Hits
 pub mod Spans
 pub mod Ladder
 pub mod Region

@@ -21,7 +21,7 @@ use Rattle.model.specs.Sectors.{sectors, hasBeyond}
 use Rattle.model.specs.Halls.{Hall}
 use Rattle.model.specs.Change.{nearby, isThere, isNearby, remarked, exceedsAt, exceeds}
 use Rattle.model.specs.Nearby.{atNearby, nearby-lt}
-use Rattle.store.specs.Hits.{Hit, seek, any-hit, same-test}
+use Rattle.laws.specs.Hits.{Hit, seek, any-hit, same-test}
 use Rattle.parts.specs.Marks.{fresh}
 use Rattle.parts.specs.Around.{sideFresh, sectorFresh, sectorExceeds, placeExceeds}
 

@@ -16,7 +16,7 @@ use Rattle.model.specs.Cells.{sideAt}
 use Rattle.model.specs.Sectors.{sectors, hasBeyond}
 use Rattle.model.specs.Calls.{badMark}
 use Rattle.store.specs.Checks.{Sized}
-use Rattle.store.specs.Hits.{any-hit, same-test}
+use Rattle.laws.specs.Hits.{any-hit, same-test}
 
 abbrev pub isAbove : List ℕ → ℕ → ℕ → Bool
 isAbove marks limit k = ltb limit (getD marks k 0)
