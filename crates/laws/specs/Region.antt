@@ -3,7 +3,7 @@
 use mathlib.Core.Path.{_≡_, refl, sym, ap, _∙_}
 use mathlib.Core.List.{List, [], _∷_, _++_, append-nil}
 use Prim.Native.Nat.{ℕ, zero, suc, _+_, _-_, _≤_, _<_}
-use native.Mathlib.Nat.{not-suc-le-zero, le-of-suc-le-suc}
+use native.Mathlib.Nat.{add-zero, not-suc-le-zero, le-of-suc-le-suc}
 use native.Mathlib.Numerals.{add-one}
 use native.Mathlib.Omega.{arith}
 use lib.ListN.{length, take, drop, getD, set, length-append, length-take, length-drop, take-append-drop, drop-of-length-le}
@@ -29,6 +29,10 @@ length-region a n xs h = simp (length-take, length-drop) (omega arith)
 pub getD-region : (a n : ℕ) (xs : List ℕ) (i : ℕ) → i < n → getD (region a n xs) i 0 ≡ getD xs (a + i) 0
 unfolding region
 getD-region a n xs i h = getD-take n (drop a xs) i 0 h ∙ getD-drop a xs i 0
+
+-- one element is a region
+alone : (p : ℕ) (xs : List ℕ) → getD xs p 0 ≡ getD (region p 1 xs) 0 0
+alone p xs = sym (getD-region p 1 xs 0 (omega arith) ∙ ap (λ (k : ℕ). getD xs k 0) (add-zero p))
 
 module _ (a n : ℕ) (f : List ℕ → List ℕ) (xs : List ℕ) (fits : a + n ≤ length xs) (kept : length (f (region a n xs)) ≡ n) where
   pub length-within : length (within a n f xs) ≡ length xs
@@ -70,6 +74,16 @@ module _ (a n : ℕ) (f : List ℕ → List ℕ) (xs : List ℕ) (fits : a + n �
       past l =
           let e : b ≡ a + n + (b - (a + n)) = omega arith in
           ap (λ (k : ℕ). drop k l) e ∙ sym (drop-drop (b - (a + n)) (a + n) l) ∙ ap (drop (b - (a + n))) (sym (drop-drop n a l))
+
+  -- what stands before it, in it and after it
+  pub getD-below : (p : ℕ) → p < a → getD (within a n f xs) p 0 ≡ getD xs p 0
+  getD-below p l = alone p (within a n f xs) ∙ ap (λ (ys : List ℕ). getD ys 0 0) (region-below p 1 (omega arith)) ∙ sym (alone p xs)
+
+  pub getD-inside : (j : ℕ) → j < n → getD (within a n f xs) (a + j) 0 ≡ getD (f (region a n xs)) j 0
+  getD-inside j l = sym (getD-region a n (within a n f xs) j l) ∙ ap (λ (ys : List ℕ). getD ys j 0) region-within
+
+  pub getD-above : (p : ℕ) → a + n ≤ p → getD (within a n f xs) p 0 ≡ getD xs p 0
+  getD-above p l = alone p (within a n f xs) ∙ ap (λ (ys : List ℕ). getD ys 0 0) (region-above p 1 l) ∙ sym (alone p xs)
 
   -- one after another on the same region
   pub within-within : (g : List ℕ → List ℕ) → within a n g (within a n f xs) ≡ within a n (λ ys. g (f ys)) xs

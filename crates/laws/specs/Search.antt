@@ -64,6 +64,12 @@ unfolding first
 first-none p zero before = refl
 first-none p (suc n) before = rw (before 0 (omega arith)) (ap suc (first-none (λ j. p (suc j)) n (λ j m. before (suc j) (omega arith))))
 
+-- two tests that agree below n stop at the same
+pub first-same : (p q : ℕ → Bool) (n : ℕ) → ((k : ℕ) → k < n → p k ≡ q k) → first p n ≡ first q n
+unfolding first
+first-same p q zero same = refl
+first-same p q (suc n) same = rw (same 0 (omega arith), first-same (λ k. p (suc k)) (λ k. q (suc k)) n (λ k l. same (suc k) (omega arith)))
+
 -- below the first that passes, none does
 pub first-before : (p : ℕ → Bool) (n k : ℕ) → k < first p n → p k ≡ false
 unfolding first

@@ -15,7 +15,7 @@ use Rattle.model.specs.Directions.{compass, eastward, southward, shifted
 use Rattle.model.specs.Change.{nearby, isThere}
 
 -- a place on an axis
-on-axis : (n wide : ℕ) → onAxis n wide ≡ true → (1 ≤ n) × (n ≤ wide)
+pub on-axis : (n wide : ℕ) → onAxis n wide ≡ true → (1 ≤ n) × (n ≤ wide)
 on-axis n wide h = let t = both (leb 1 n) (leb n wide) h in (leb-true 1 n (t .0), leb-true n wide (t .1))
 
 -- a shift that stays on the floor leads to one of its sectors

@@ -32,7 +32,7 @@ axis-moved sector c e n l k h = omega arith
 
 -- ---- the two axes of a floor
 -- column and row of a sector by its number
-column-is : (m : Measures) (c r : ℕ) → r < m .rows → columnOf m (sectorNumber m c r) ≡ c
+pub column-is : (m : Measures) (c r : ℕ) → r < m .rows → columnOf m (sectorNumber m c r) ≡ c
 column-is m c r l = omega (arith, ap (λ (n : ℕ). n / m .rows) (sum c r), add-mul-div-right r c (some l), div-eq-of-lt l)
   where
     sum : (c r : ℕ) → c * m .rows + r ≡ r + c * m .rows
@@ -41,7 +41,7 @@ column-is m c r l = omega (arith, ap (λ (n : ℕ). n / m .rows) (sum c r), add-
     some : r < m .rows → 0 < m .rows
     some h = omega arith
 
-row-is : (m : Measures) (c r : ℕ) → r < m .rows → rowOf m (sectorNumber m c r) ≡ r
+pub row-is : (m : Measures) (c r : ℕ) → r < m .rows → rowOf m (sectorNumber m c r) ≡ r
 row-is m c r l = omega (arith, ap (λ (n : ℕ). n % m .rows) (sum c r), add-mul-mod-self-right r c (m .rows), mod-eq-of-lt l)
   where
     sum : (c r : ℕ) → c * m .rows + r ≡ r + c * m .rows

@@ -2,5 +2,6 @@ pub mod Costs
 pub mod Copies
 pub mod One
 pub mod Lines
-pub mod Inside
-pub mod Beyond
+pub mod Board
+pub mod Showing
+pub mod Walks

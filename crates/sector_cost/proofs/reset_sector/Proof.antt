@@ -1,55 +1,25 @@
--- `reset_sector` puts the region of base in place of that of the scaled costs.
-use denote.Ref.{now}
-use Rattle.sector_cost.specs.Copies.{reset-came}
+-- `reset_sector` puts the sector of base in place of that of the scaled costs.
+use Rattle.model.specs.Change.{resetSector}
 use borrow.Author.Needs.{needs}
 use Rattle.sector_cost.proofs.reset_sector.Statement.{statement}
 use Rattle.sector_cost.proofs.reset_sector.Tie as tie
 
-mul-from : tie.Need-mul-from
-mul-from c = search needs
+mul-copy-part : tie.Need-mul-copy-part
+mul-copy-part c = search needs
 
-add-to : tie.Need-add-to
-add-to c = search needs
+mul-copy-part-2 : tie.Need-mul-copy-part-2
+mul-copy-part-2 c = search needs
 
-sub-copy : tie.Need-sub-copy
-sub-copy c = search needs
-
-part-copy-start : tie.Need-part-copy-start
-part-copy-start c = search needs
-
-part-copy-end : tie.Need-part-copy-end
-part-copy-end c = search needs
-
-sub-copy-2 : tie.Need-sub-copy-2
-sub-copy-2 c = search needs
-
-part-copy-start-2 : tie.Need-part-copy-start-2
-part-copy-start-2 c = search needs
-
-part-copy-end-2 : tie.Need-part-copy-end-2
-part-copy-end-2 c = search needs
-
-copy-requires : tie.Need-copy-requires
-copy-requires c κs = search needs
+copy-part-requires : tie.Need-copy-part-requires
+copy-part-requires c κs = search needs
 
 same-length : tie.Need-same-length
 same-length c = search needs
 
 returns : tie.Need-returns
-returns c = let p = c .before .before in let a = p .before .before .before .before .before .args in reset-came (now (a .base)) (a .s) (now (a .scaled)) (search needs) (p .copy .ensures .1)
+unfolding resetSector
+returns c = c .before .before .copy-part .ensures
 
 pub reset-sector-spec : {M : Type 1} → statement M
 reset-sector-spec =
-    tie.close
-    (tie.spec
-    mul-from
-    add-to
-    sub-copy
-    part-copy-start
-    part-copy-end
-    sub-copy-2
-    part-copy-start-2
-    part-copy-end-2
-    copy-requires
-    same-length
-    returns)
+    tie.close (tie.spec mul-copy-part mul-copy-part-2 copy-part-requires same-length returns)

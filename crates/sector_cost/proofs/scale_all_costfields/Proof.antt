@@ -2,8 +2,9 @@
 use mathlib.Core.Path.{_≡_, sym, _∙_}
 use denote.Ref.{now}
 use Rattle.model.specs.Scaling.{scaleFloor}
-use Rattle.sector_cost.specs.Copies.{copied}
 use Rattle.model.specs.ScaleOne.{floor-one}
+use Rattle.sector_cost.specs.Copies.{copied}
+use Rattle.sector_cost.specs.Showing.{showing-none}
 use borrow.Author.Needs.{needs}
 use Rattle.sector_cost.proofs.scale_all_costfields.Statement.{statement}
 use Rattle.sector_cost.proofs.scale_all_costfields.Tie as tie
@@ -21,11 +22,20 @@ same-length c = search needs
 returns : tie.Need-returns
 returns c = let p = c .before .before .before .before in copied-base p ∙ sym (floor-one _ (c .if1 .taken) _)
 
+slice-aggregate-show-floor : tie.Need-slice-aggregate-show-floor
+slice-aggregate-show-floor c = search needs
+
+show-floor-requires : tie.Need-show-floor-requires
+show-floor-requires c κs = (search needs, showing-none)
+
 sectors-requires : tie.Need-sectors-requires
 sectors-requires c κs = search needs
 
+slice-aggregate-scale-sectors : tie.Need-slice-aggregate-scale-sectors
+slice-aggregate-scale-sectors c = search needs
+
 scale-sectors-requires : tie.Need-scale-sectors-requires
-scale-sectors-requires c κs = search needs
+scale-sectors-requires c κs = (search needs, search needs, search needs, c .before .before .before .before .show-floor .ensures)
 
 same-length-2 : tie.Need-same-length-2
 same-length-2 c = search needs
@@ -33,9 +43,10 @@ same-length-2 c = search needs
 returns-2 : tie.Need-returns-2
 unfolding scaleFloor
 returns-2 c =
-    let r = c .before .before in
-    let n = r .before .before in
-    rw (r .scale-sectors .ensures, copied-base (n .before .before .before .before .before), n .sectors .ensures)
+    let r = c .before .before .before in
+    let n = r .before .before .before in
+    let p = n .before .before .before .before .before .before .before .before .before in
+    rw (r .scale-sectors .ensures, copied-base p, n .sectors .ensures)
 
 pub scale-all-costfields-spec : {M : Type 1} → statement M
 scale-all-costfields-spec =
@@ -44,7 +55,10 @@ scale-all-costfields-spec =
     copy-requires
     same-length
     returns
+    slice-aggregate-show-floor
+    show-floor-requires
     sectors-requires
+    slice-aggregate-scale-sectors
     scale-sectors-requires
     same-length-2
     returns-2)

@@ -15,7 +15,7 @@ is-open-requires c κs = search needs
 
 returns : tie.Need-returns
 unfolding scaleCell
-returns c = simp (← c .before .is-open .ensures, c .if1 .taken)
+returns c = (simp (← c .before .is-open .ensures, c .if1 .taken), c .before .before .before .before .before .pre .1)
 
 scale-in-directions-requires : tie.Need-scale-in-directions-requires
 scale-in-directions-requires c κs = search needs
@@ -23,12 +23,15 @@ scale-in-directions-requires c κs = search needs
 same-length : tie.Need-same-length
 same-length c = search needs
 
+same-length-2 : tie.Need-same-length-2
+same-length-2 c = search needs
+
 returns-2 : tie.Need-returns-2
 unfolding scaleCell
 returns-2 c =
-    let w = c .before .before in
-    let o = w .before .before in
-    simp (← o .before .is-open .ensures, o .if1 .left, w .scale-in-directions .ensures)
+    let w = c .before .before .before .before in
+    let o = w .before .before .before in
+    (simp (← o .before .is-open .ensures, o .if1 .left, w .scale-in-directions .ensures .0), w .scale-in-directions .ensures .1)
 
 pub scale-cell-spec : {M : Type 1} → statement M
 scale-cell-spec =
@@ -40,4 +43,5 @@ scale-cell-spec =
     returns
     scale-in-directions-requires
     same-length
+    same-length-2
     returns-2)

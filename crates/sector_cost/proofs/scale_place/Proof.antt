@@ -13,22 +13,26 @@ nearby-requires c κs = search needs
 
 scale-costfield-requires : tie.Need-scale-costfield-requires
 scale-costfield-requires c κs =
-    let t = c .before .before in
-    let a = t .before .before .before .before .args in
+    let n = c .before .before in
+    let t = n .before in
+    let a = t .before .before .before .before .before .args in
     let l = nearby-lt (a .m) (a .t) (a .k) (search needs) (sym (t .before .is-there .ensures) ∙ t .if1 .taken) in
-    rw (c .before .nearby .ensures) (search needs)
+    rw (n .nearby .ensures) (search needs)
 
 same-length : tie.Need-same-length
 same-length c = search needs
 
+same-length-2 : tie.Need-same-length-2
+same-length-2 c = search needs
+
 returns : tie.Need-returns
 returns c =
-    let r = c .before .before in
-    let n = r .before .before in
-    simp (← n .before .before .is-there .ensures, n .before .if1 .taken, r .scale-costfield .ensures, n .nearby .ensures)
+    let r = c .before .before .before .before in
+    let n = r .before .before .before in
+    (simp (← n .before .before .is-there .ensures, n .before .if1 .taken, r .scale-costfield .ensures .0, n .nearby .ensures), r .scale-costfield .ensures .1)
 
 returns-2 : tie.Need-returns-2
-returns-2 c = simp (← c .before .is-there .ensures, c .if1 .left)
+returns-2 c = (simp (← c .before .is-there .ensures, c .if1 .left), c .before .before .before .before .before .pre .3)
 
 pub scale-place-spec : {M : Type 1} → statement M
 scale-place-spec =
@@ -38,5 +42,6 @@ scale-place-spec =
     nearby-requires
     scale-costfield-requires
     same-length
+    same-length-2
     returns
     returns-2)

@@ -1,8 +1,8 @@
--- `stride` is at most 22, so that no sum with it wraps.
+-- `stride` is at most 242, so that no sum with it wraps.
 use Rattle.fields.specs.Bounds.{eastward-small, southward-small}
 use borrow.Author.Needs.{needs}
-use Rattle.sector_cost.proofs.inside.stride.Statement.{statement}
-use Rattle.sector_cost.proofs.inside.stride.Tie as tie
+use Rattle.sector_cost.proofs.walks.stride.Statement.{statement}
+use Rattle.sector_cost.proofs.walks.stride.Tie as tie
 
 eastward-requires : tie.Need-eastward-requires
 eastward-requires c κs = search needs

@@ -1,0 +1,15 @@
+// Copies of a part of one list into another.
+ghost use mathlib.Core.Path.{_≡_};
+ghost use Prim.Native.Nat.{_+_, _≤_};
+ghost use lib.ListN.{length};
+ghost use Rattle.laws.specs.Region.{region, within};
+
+// Puts n costs from place a on in place of those from place b on.
+pub fn copy_part(from: &[u8], a: usize, n: usize, b: usize, to: &mut [u8])
+    requires { ⌜ (a + n ≤ length (now from)) × (b + n ≤ length (now to)) ⌝ }
+    ensures { λ _. ⌜ now (to .exit) ≡ within b n (λ old. region a n (now (from .entry))) (now (to .entry)) ⌝ }
+{
+    let e = a + n;
+    let f = b + n;
+    bytes::copy(&from[a..e], &mut to[b..f]);
+}
