@@ -34,21 +34,9 @@ southward-small SouthWest = omega arith
 southward-small NorthWest = omega arith
 
 -- at most nine steps, of at most one place each, end less than twenty places on
-pub steps-small : {n e : ℕ} → n ≤ 9 → e ≤ 2 → n * e ≤ 18
-steps-small p q = mul-le-mul p q
-
 pub stepped-small : (c e n : ℕ) → c ≤ 9 → e ≤ 2 → n ≤ 9 → stepped c e n < 30
 stepped-small c e n h p q = omega (arith, mul-le-mul-left n p)
 
-module _ (i : ℕ) (d : CompassDir) (n : ℕ) (on : i < 100) (few : n ≤ 9) where
-  pub landing-index : landing i d n .index < 100
-  unfolding landing
-  landing-index = omega arith
-
-  pub landing-east : landing i d n .east ≤ 2
-  unfolding landing
-  landing-east = omega (arith, stepped-small (i % 10) (eastward d) n (omega arith) (eastward-small d) few)
-
-  pub landing-south : landing i d n .south ≤ 2
-  unfolding landing
-  landing-south = omega (arith, stepped-small (i / 10) (southward d) n (omega arith) (southward-small d) few)
+pub landing-index : (i : ℕ) (d : CompassDir) (n : ℕ) → i < 100 → n ≤ 9 → landing i d n .index < 100
+unfolding landing
+landing-index i d n on few = omega arith

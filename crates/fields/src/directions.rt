@@ -1,12 +1,10 @@
-// The eight directions, and where steps land.
+// The eight directions, and the sectors that they lead to.
 ghost use mathlib.Core.Path.{_≡_};
-ghost use Prim.Native.Nat.{_+_, _≤_, _<_};
-ghost use Rattle.model.specs.Directions.{compass, eastward, southward, stepped, landing, shifted, onAxis, onFloor};
-use crate::numbers::byte;
+ghost use Prim.Native.Nat.{_≤_};
+ghost use Rattle.model.specs.Directions.{compass, eastward, southward, shifted, onAxis, onFloor};
 use crate::numbers::less;
 use crate::numbers::wide;
 use model::CompassDir;
-use model::Landing;
 use model::Measures;
 
 // The directions by number: N, E, S, W, NE, SE, SW, NW.
@@ -54,28 +52,6 @@ pub fn southward(d: CompassDir) -> usize
         CompassDir::SouthEast => 2,
         CompassDir::SouthWest => 2,
         CompassDir::NorthWest => 0,
-    }
-}
-
-// Ten more than the place on an axis that n steps from place c lead to.
-fn stepped(c: usize, e: usize, n: usize) -> usize
-    requires { ⌜ (c ≤ 9) × (e ≤ 2) × (n ≤ 9) ⌝ }
-    ensures { λ r. ⌜ (r ≡ stepped c e n) × (r < 30) ⌝ }
-{
-    c + 10 + n * e - n
-}
-
-// Where n steps from cell i lead: the index there, and how far the sector is on each axis, plus one.
-pub fn landing(i: usize, d: CompassDir, n: usize) -> Landing
-    requires { ⌜ (i < 100) × (n ≤ 9) ⌝ }
-    ensures { λ r. ⌜ r ≡ landing i d n ⌝ }
-{
-    let x = stepped(i % 10, eastward(d), n);
-    let y = stepped(i / 10, southward(d), n);
-    Landing {
-        index: byte(y % 10 * 10 + x % 10),
-        east: byte(x / 10),
-        south: byte(y / 10),
     }
 }
 

@@ -22,7 +22,7 @@ use Rattle.model.specs.WindowRuns.{bits-small}
 use Rattle.model.specs.Store.{measuresAt, marksIn, hallIn, decode, written}
 use Rattle.model.specs.Change.{isNearby, rescaled, remarked, changed, exceedsAt, exceeds}
 use Rattle.model.specs.Calls.{ifAccepted}
-use Rattle.sector_cost.specs.Costs.{Costs}
+use Rattle.sector_cost.specs.Costs.{Costs, costs}
 use Rattle.parts.specs.Marks.{Floor, Small}
 use Rattle.parts.specs.Parts.{hallOf, Changeable, alteredNumber, alteredInto}
 
@@ -63,7 +63,7 @@ module _ (m : Measures) (marks : List ℕ) (t s k : ℕ) {side : Side} (at : sid
 -- ---- the hall after a change
 module _ {m : Measures} {st : List ℕ} {n : ℕ} (c : Changeable m st n) where
   pub costs-changed : (xs : List ℕ) → length xs ≡ cells m → Costs m xs
-  costs-changed xs e = record { rows = c .floor .sides .some-rows; few = c .floor .few; scale = c .scale; long = e }
+  costs-changed xs e = let z = c .floor .sides in costs (z .few-columns) (z .some-rows) (z .few-rows) (c .scale) e
 
   pub changed-by : (cost : ℕ) {size size' : ℕ} {b s s' k k' : List ℕ} → size ≡ cells m → size' ≡ cells m → length b ≡ size
       → b ≡ region 4 size st → s ≡ region (4 + length (set b n cost)) size' st → s' ≡ rescaled m (set b n cost) (n / 100) s

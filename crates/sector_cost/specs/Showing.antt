@@ -39,8 +39,11 @@ wall-at m xs p off = go (onAxis (p % 120 / 10) (m .columns) && onAxis (p / 120 /
 
 module _ {m : Measures} {xs : List ℕ} where
   -- a board of walls
-  pub showing-none : Showing m xs 0 (replicate 14400 255)
-  showing-none = record { passed = tabled-none (shown m xs) 14400 (replicate 14400 255) (length-replicate {A = ℕ} 14400 255); ahead = λ p _. getD-replicate {A = ℕ} 14400 p 255 0 }
+  pub showing-none : {bs : List ℕ} → bs ≡ replicate 14400 255 → Showing m xs 0 bs
+  showing-none e = subst (λ (l : List ℕ). Showing m xs 0 l) (sym e) walls
+    where
+      walls : Showing m xs 0 (replicate 14400 255)
+      walls = record { passed = tabled-none (shown m xs) 14400 (replicate 14400 255) (length-replicate {A = ℕ} 14400 255); ahead = λ p _. getD-replicate {A = ℕ} 14400 p 255 0 }
 
   pub showing-all : {k : ℕ} {bs : List ℕ} → Showing m xs k bs → 14400 ≤ k → bs ≡ boardOf m xs
   unfolding boardOf

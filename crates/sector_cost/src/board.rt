@@ -1,13 +1,20 @@
 // The board: the plain floor as one list, 120 rows of 120 places, with walls around the floor.
 ghost use mathlib.Core.Path.{_≡_};
 ghost use Prim.Native.Nat.{_+_, _*_, _≤_, _<_};
-ghost use Rattle.model.specs.Sectors.{sectors};
+ghost use lib.ListN.{replicate};
 ghost use Rattle.sector_cost.specs.Costs.{Costs};
 ghost use Rattle.sector_cost.specs.Board.{boardOf, corner};
 ghost use Rattle.sector_cost.specs.Showing.{Showing, rowStart};
 use crate::copies::copy_part;
 use fields::numbers::wide;
 use model::Measures;
+
+// A board of walls.
+pub fn walls() -> [u8; 14400]
+    ensures { λ r. ⌜ r ≡ replicate 14400 255 ⌝ }
+{
+    [255u8; 14400]
+}
 
 // Where the first cell of sector s is shown.
 pub fn corner(m: Measures, s: usize) -> usize

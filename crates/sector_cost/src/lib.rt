@@ -18,6 +18,7 @@ ghost use Rattle.sector_cost.specs.Costs.{Costs};
 ghost use Rattle.sector_cost.specs.Walks.{Shows};
 use crate::board::corner;
 use crate::board::show_floor;
+use crate::board::walls;
 use crate::copies::copy_part;
 use crate::nearby::is_there;
 use crate::nearby::nearby;
@@ -88,7 +89,7 @@ pub fn scale_all_costfields(m: Measures, base: &[u8], scaled: &mut [u8])
     if m.scale == 1 {
         return;
     }
-    let mut board = [255u8; 14400];
+    let mut board = walls();
     show_floor(m, scaled, &mut board);
     scale_sectors(m, base, sectors(m), scaled, &mut board);
 }
@@ -124,14 +125,7 @@ fn reset_nearby(m: Measures, base: &[u8], t: usize, n: usize, scaled: &mut [u8])
 }
 
 // Rescales place k of the sectors around t, if there is one.
-fn scale_place(
-    m: Measures,
-    base: &[u8],
-    t: usize,
-    k: usize,
-    scaled: &mut [u8],
-    board: &mut [u8],
-)
+fn scale_place(m: Measures, base: &[u8], t: usize, k: usize, scaled: &mut [u8], board: &mut [u8])
     requires { ⌜ Costs m (now base) × Costs m (now scaled) × (t < sectors m) × (now board ≡ boardOf m (now scaled)) ⌝ }
     ensures list { λ _. ⌜ now (scaled .exit) ≡ atNearby m t (scaleSector m (now (base .entry))) k (now (scaled .entry)) ⌝ }
     ensures shown { λ _. ⌜ now (board .exit) ≡ boardOf m (now (scaled .exit)) ⌝ }
@@ -142,14 +136,7 @@ fn scale_place(
 }
 
 // Rescales the first n places around t.
-fn scale_nearby(
-    m: Measures,
-    base: &[u8],
-    t: usize,
-    n: usize,
-    scaled: &mut [u8],
-    board: &mut [u8],
-)
+fn scale_nearby(m: Measures, base: &[u8], t: usize, n: usize, scaled: &mut [u8], board: &mut [u8])
     requires { ⌜ Costs m (now base) × Costs m (now scaled) × (t < sectors m) × (now board ≡ boardOf m (now scaled)) ⌝ }
     ensures { λ _. ⌜ now (scaled .exit) ≡ run (atNearby m t (scaleSector m (now (base .entry)))) n (now (scaled .entry)) ⌝ }
 {
@@ -166,10 +153,9 @@ pub fn rescale(m: Measures, base: &[u8], t: usize, scaled: &mut [u8])
     ensures { λ _. ⌜ now (scaled .exit) ≡ rescaled m (now (base .entry)) t (now (scaled .entry)) ⌝ }
 {
     reset_nearby(m, base, t, 9, scaled);
-    if m.scale == 1 {
-        return;
+    if m.scale != 1 {
+        let mut board = walls();
+        show_floor(m, scaled, &mut board);
+        scale_nearby(m, base, t, 9, scaled, &mut board);
     }
-    let mut board = [255u8; 14400];
-    show_floor(m, scaled, &mut board);
-    scale_nearby(m, base, t, 9, scaled, &mut board);
 }

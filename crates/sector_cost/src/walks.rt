@@ -44,14 +44,19 @@ fn turned(c: usize, e: usize) -> usize
     requires { ⌜ (c ≤ 9) × (e ≤ 2) ⌝ }
     ensures { λ r. ⌜ (r ≡ (c + 9 + e) % 10) × (r ≤ 9) ⌝ }
 {
-    let on = c + e;
-    if on == 0 {
-        return 9;
+    if e == 1 {
+        return c;
     }
-    if on == 11 {
+    if e == 0 {
+        if c == 0 {
+            return 9;
+        }
+        return c - 1;
+    }
+    if c == 9 {
         return 0;
     }
-    on - 1
+    c + 1
 }
 
 // Blocks the cell in column x and row y of sector s, whose first cell is shown at place o.

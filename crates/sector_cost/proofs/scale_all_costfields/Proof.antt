@@ -22,11 +22,14 @@ same-length c = search needs
 returns : tie.Need-returns
 returns c = let p = c .before .before .before .before in copied-base p ∙ sym (floor-one _ (c .if1 .taken) _)
 
+walls-requires : tie.Need-walls-requires
+walls-requires c κs = search needs
+
 slice-aggregate-show-floor : tie.Need-slice-aggregate-show-floor
 slice-aggregate-show-floor c = search needs
 
 show-floor-requires : tie.Need-show-floor-requires
-show-floor-requires c κs = (search needs, showing-none)
+show-floor-requires c κs = (search needs, showing-none (c .before .before .walls .ensures))
 
 sectors-requires : tie.Need-sectors-requires
 sectors-requires c κs = search needs
@@ -45,7 +48,7 @@ unfolding scaleFloor
 returns-2 c =
     let r = c .before .before .before in
     let n = r .before .before .before in
-    let p = n .before .before .before .before .before .before .before .before .before in
+    let p = n .before .before .before .before .before .before .before .before .before .before in
     rw (r .scale-sectors .ensures, copied-base p, n .sectors .ensures)
 
 pub scale-all-costfields-spec : {M : Type 1} → statement M
@@ -55,6 +58,7 @@ scale-all-costfields-spec =
     copy-requires
     same-length
     returns
+    walls-requires
     slice-aggregate-show-floor
     show-floor-requires
     sectors-requires
