@@ -10,7 +10,7 @@ use native.Mathlib.Omega.{arith}
 use lib.Dec.{ltb}
 use borrow.Author.Count.{below-more}
 use borrow.Author.Tests.{lt-ltb, le-ltb, ltb-false}
-use Rattle.laws.specs.Fold.{pick, bit, false-ne-true}
+use Rattle.laws.specs.Fold.{pick, pick-keeps, bit, false-ne-true}
 use Rattle.laws.specs.Choice.{In, here, later, in-cons}
 
 -- how many of 0, 1, .. come before the first that passes; n if none below n does
@@ -63,6 +63,12 @@ pub first-none : (p : ℕ → Bool) (n : ℕ) → ((j : ℕ) → j < n → p j �
 unfolding first
 first-none p zero before = refl
 first-none p (suc n) before = rw (before 0 (omega arith)) (ap suc (first-none (λ j. p (suc j)) n (λ j m. before (suc j) (omega arith))))
+
+-- at most n come before it
+pub first-le : (p : ℕ → Bool) (n : ℕ) → first p n ≤ n
+unfolding first
+first-le p zero = omega arith
+first-le p (suc n) = pick-keeps (λ k. k ≤ suc n) (p 0) 0 (suc (first (λ k. p (suc k)) n)) (omega arith) (omega (arith, first-le (λ k. p (suc k)) n))
 
 -- two tests that agree below n stop at the same
 pub first-same : (p q : ℕ → Bool) (n : ℕ) → ((k : ℕ) → k < n → p k ≡ q k) → first p n ≡ first q n

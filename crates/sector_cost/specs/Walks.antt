@@ -3,11 +3,12 @@ use Prim.Native.Nat.{ℕ, zero, suc, _+_, _-_, _*_, _/_, _%_, _≤_, _<_}
 use native.Mathlib.Nat.{suc-mul}
 use native.Mathlib.Omega.{arith}
 use mathlib.Core.Path.{_≡_, refl, sym, ap, _∙_}
+use mathlib.Core.Bool.{Bool, true, false}
 use mathlib.Core.List.{List}
+use lib.Dec.{ltb}
 use lib.ListN.{length, set}
-use borrow.Author.Tests.{lt-ltb, le-ltb}
 use Rattle.laws.specs.Fold.{run, run-turn}
-use Rattle.laws.specs.Search.{first, first-same}
+use Rattle.laws.specs.Search.{Sought, first-same}
 use Rattle.model.specs.declared.Measures.{Measures}
 use Rattle.model.specs.declared.CompassDir.{CompassDir}
 use Rattle.model.specs.Sectors.{sectors}
@@ -39,16 +40,16 @@ module _ {m : Measures} {s o : ℕ} {xs bs : List ℕ} (h : Shows m s o xs bs) w
 
   module _ {i : ℕ} (d : CompassDir) {step : ℕ} (cell : i < 100) (is : step ≡ stride d) where
     -- nine steps stay on the board
-    pub walk-line : (n : ℕ) → n ≤ 9 → Line (spot o i) step n (length bs)
-    walk-line n few = rw (is, h .at, shows-long) (record {
+    pub on-board : (n : ℕ) → n ≤ 9 → Line (spot o i) step n (length bs)
+    on-board n few = rw (is, h .at, shows-long) (record {
       low = λ k l. line-low m s (h .costs .wide) (h .costs .rows) (h .costs .tall) (h .on) i d k cell (omega arith);
       high = λ k l. line-high m s (h .costs .wide) (h .costs .rows) (h .costs .tall) (h .on) i d k cell (omega arith);
     })
 
     -- and meet a wall where the walk does
-    pub walk-passes : {r : ℕ} → r ≡ first (blockedOn bs (spot o i) step) (m .scale) → r ≡ passes m xs s i d
+    pub walk-passes : {r : ℕ} {met : Bool} → Sought (blockedOn bs (spot o i) step) (m .scale) r met → r ≡ passes m xs s i d
     unfolding passes
-    walk-passes e = e ∙ rw (is, h .at, h .shows) (first-same _ _ (m .scale) (λ k l. sym (wall-shown m s (h .costs .wide) (h .costs .rows) (h .costs .tall) (h .on) i d (k + 1) cell (omega (arith, h .costs .scale)) xs)))
+    walk-passes w = sym (w .at) ∙ rw (is, h .at, h .shows) (first-same _ _ (m .scale) (λ k l. sym (wall-shown m s (h .costs .wide) (h .costs .rows) (h .costs .tall) (h .on) i d (k + 1) cell (omega (arith, h .costs .scale)) xs)))
 
 -- ---- the cells passed
 -- a step on one axis, on a circle of ten places
@@ -101,16 +102,16 @@ module _ {m : Measures} {s o i : ℕ} {xs bs : List ℕ} (d : CompassDir) (h : S
   run-shown (suc n) few = ap (blockSpot o i d n) (run-shown n (omega arith)) ∙ step-shown n (omega arith) (run (blockStep s i d) n xs)
 
 -- ---- a walk
-module _ (m : Measures) (xs : List ℕ) (s i : ℕ) (d : CompassDir) {r : ℕ} (e : r ≡ passes m xs s i d) where
+module _ (m : Measures) (xs : List ℕ) (s i : ℕ) (d : CompassDir) {r : ℕ} {met : Bool} (e : r ≡ passes m xs s i d) (test : ltb r (m .scale) ≡ met) where
   -- it met a wall
-  pub walk-met : r < m .scale → run (blockStep s i d) r xs ≡ blockPassed m s i d (passes m xs s i d) xs
+  pub walk-met : met ≡ true → run (blockStep s i d) r xs ≡ blockPassed m s i d (passes m xs s i d) xs
   unfolding blockPassed
-  walk-met l = rw (← e, lt-ltb r (m .scale) l) refl
+  walk-met h = rw (← e, test, h) refl
 
   -- it met none
-  pub walk-clear : m .scale ≤ r → xs ≡ blockPassed m s i d (passes m xs s i d) xs
+  pub walk-clear : met ≡ false → xs ≡ blockPassed m s i d (passes m xs s i d) xs
   unfolding blockPassed
-  walk-clear l = rw (← e, le-ltb r (m .scale) l) refl
+  walk-clear h = rw (← e, test, h) refl
 
 -- the walk in direction k of the order, after those before it
 pub walked : (m : Measures) (s i : ℕ) (k : ℕ) (zs : List ℕ) {d : CompassDir} {xs ys : List ℕ} → d ≡ compass k → ys ≡ blockPassed m s i d (passes m xs s i d) xs → xs ≡ run (walk m s i) k zs → ys ≡ run (walk m s i) (k + 1) zs

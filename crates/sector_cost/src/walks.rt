@@ -3,7 +3,7 @@ ghost use mathlib.Core.Path.{_≡_};
 ghost use Prim.Native.Nat.{_+_, _*_, _%_, _≤_, _<_};
 ghost use lib.ListN.{length, set};
 ghost use Rattle.laws.specs.Fold.{run};
-ghost use Rattle.laws.specs.Search.{first};
+ghost use Rattle.laws.specs.Search.{Sought};
 ghost use Rattle.model.specs.Scaling.{passes, blockStep, blockPassed, walk};
 ghost use Rattle.sector_cost.specs.Lines.{Line, blockedOn};
 ghost use Rattle.sector_cost.specs.Board.{stride};
@@ -22,21 +22,30 @@ fn stride(d: CompassDir) -> usize
     eastward(d) + 120 * southward(d)
 }
 
-// How many of n steps from place a are made before a wall.
-fn open_steps(board: &[u8], a: usize, step: usize, n: usize) -> usize
+// A walk: how many cells it passed, and whether it met a wall.
+struct Walked {
+    passed: usize,
+    met: bool,
+}
+
+// The walk of up to n steps from place a: it stops at the first wall.
+fn walk_line(board: &[u8], a: usize, step: usize, n: usize) -> Walked
     requires { ⌜ Line a step n (length (now board)) × (length (now board) ≤ 14400) × (step ≤ 242) ⌝ }
-    ensures { λ r. ⌜ r ≡ first (blockedOn (now (board .entry)) a step) n ⌝ }
+    ensures { λ r. ⌜ Sought (blockedOn (now (board .entry)) a step) n (r .passed) (r .met) ⌝ }
 {
     let mut at = a;
-    let mut k = 0;
-    while k < n {
+    let mut passed = 0;
+    let met = 'walk: loop {
+        if n <= passed {
+            break 'walk false;
+        }
         at = at + step - 121;
         if !is_open(board, at) {
-            return k;
+            break 'walk true;
         }
-        k += 1;
-    }
-    k
+        passed += 1;
+    };
+    Walked { passed, met }
 }
 
 // The place on a circle of ten that a step leads to; e is what the step does, plus one.
@@ -108,10 +117,9 @@ fn scale_in_compass_direction(
     ensures list { λ _. ⌜ now (scaled .exit) ≡ blockPassed m s i d (passes m (now (scaled .entry)) s i d) (now (scaled .entry)) ⌝ }
     ensures shown { λ _. ⌜ Shows m s o (now (scaled .exit)) (now (board .exit)) ⌝ }
 {
-    let scale = wide(m.scale);
-    let n = open_steps(board, o + i / 10 * 120 + i % 10, stride(d), scale);
-    if n < scale {
-        block_passed(s, o, i, d, n, scaled, board);
+    let w = walk_line(board, o + i / 10 * 120 + i % 10, stride(d), wide(m.scale));
+    if w.met {
+        block_passed(s, o, i, d, w.passed, scaled, board);
     }
 }
 
