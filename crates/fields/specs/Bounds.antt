@@ -1,5 +1,5 @@
 -- How large the numbers of cells, sectors and directions get. A direction is a parameter throughout.
-use Prim.Native.Nat.{ℕ, _*_, _/_, _%_, _≤_, _<_}
+use Prim.Native.Nat.{ℕ, _*_, _≤_, _<_}
 use native.Mathlib.Nat.{mul-le-mul, mul-le-mul-left}
 use native.Mathlib.Omega.{arith}
 use Rattle.model.specs.declared.CompassDir.{CompassDir}

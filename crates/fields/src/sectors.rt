@@ -1,6 +1,6 @@
 // Sectors by number.
 ghost use mathlib.Core.Path.{_≡_};
-ghost use Prim.Native.Nat.{_-_, _≤_, _<_};
+ghost use Prim.Native.Nat.{_≤_, _<_};
 ghost use Rattle.model.specs.Sectors.{sectors, cells, beyond, hasBeyond};
 use crate::numbers::less;
 use crate::numbers::wide;

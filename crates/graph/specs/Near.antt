@@ -1,20 +1,20 @@
 -- The moves between a cell and the portals of its sector, as one list by place; by it go the start portals, the end portals, leg and the last moves.
-use Prim.Native.Nat.{ℕ, _+_, _*_, _/_, _%_, _≤_, _<_}
+use Prim.Native.Nat.{ℕ, _+_, _*_, _/_, _≤_, _<_}
 use native.Mathlib.Omega.{arith}
 use mathlib.Core.Path.{_≡_, refl, sym, ap, _∙_}
 use mathlib.Core.Logic.{_⊎_, inl, inr}
 use mathlib.Core.Bool.{Bool, true, false, _&&_}
 use mathlib.Core.List.{List}
-use lib.Dec.{ltb, eqb}
-use lib.ListN.{length, getD}
-use borrow.Author.Tests.{ltb-true, ltb-false, lt-ltb, le-ltb, eq-eqb, ne-eqb}
+use lib.Dec.{ltb}
+use lib.ListN.{getD}
+use borrow.Author.Tests.{lt-ltb, le-ltb, eq-eqb, ne-eqb}
 use Rattle.laws.specs.Fold.{pick}
 use Rattle.laws.specs.Search.{both}
 use Rattle.laws.specs.Graph.{below-or}
 use Rattle.laws.specs.Table.{tabulate, tabulate-at, table-at, Tabled, tabled-same, tabled-all}
 use Rattle.model.specs.Sectors.{sectorOf, placeOf, costsOf}
 use Rattle.model.specs.Moves.{moves, movesTo, joined, apart}
-use Rattle.model.specs.MovesFewest.{Joined, joined-is, is-joined, joined-back, moves-settled}
+use Rattle.model.specs.MovesFewest.{joined-back, moves-settled}
 use Rattle.model.specs.Halls.{Hall}
 use Rattle.model.specs.Portals.{isPortal, midpoint, midCell}
 use Rattle.model.specs.LeastPathFirst.{Fits}

@@ -1,11 +1,10 @@
 -- The turn of a portal whose edges within its sector offer nothing: the arc to the facing portal is all of it.
 use Prim.Native.Nat.{ℕ, _+_, _*_, _/_, _%_, _≤_, _<_}
-use native.Mathlib.Decide.{ℕ-discrete}
 use native.Mathlib.Omega.{arith}
 use mathlib.Core.Path.{_≡_, refl, sym, ap, _∙_}
 use mathlib.Core.Logic.{_⊎_, inl, inr}
 use mathlib.Core.List.{List, _++_}
-use lib.ListN.{length, getD, set, length-set}
+use lib.ListN.{length, getD, length-set}
 use lib.Seq.{getD-set-other}
 use Rattle.laws.specs.Graph.{Graph, Sound, below-or}
 use Rattle.laws.specs.LeastCosts.{relaxed, relaxed-cases, Relaxed, taken, kept, set-each}

@@ -3,7 +3,6 @@
 ghost use mathlib.Core.Path.{_≡_};
 ghost use mathlib.Core.Bool.{false};
 ghost use Prim.Native.Nat.{ℕ, _+_, _*_, _/_, _≤_, _<_};
-ghost use mathlib.Core.List.{List};
 ghost use lib.ListN.{length, getD, set, replicate};
 ghost use Rattle.laws.specs.Graph.{BothWays};
 ghost use Rattle.laws.specs.LeastCosts.{relaxed};

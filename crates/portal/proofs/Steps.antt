@@ -12,7 +12,7 @@ use Rattle.laws.specs.LeastCosts.{least-costs, least-costs-settled}
 use Rattle.model.specs.declared.Side.{Side}
 use Rattle.model.specs.Cells.{sideNumber, sideAt, beside}
 use Rattle.model.specs.Costs.{openAt}
-use Rattle.model.specs.Moves.{move, moveGraph, moves}
+use Rattle.model.specs.Moves.{moveGraph, moves}
 use Rattle.model.specs.MovesFewest.{Moves, side-number, side-low, move-is, move-one, move-sound, move-back, moves-settled}
 
 -- the fewest moves to cell i

@@ -20,7 +20,7 @@ use Rattle.model.specs.declared.Side.{Side}
 use Rattle.model.specs.declared.Side.the-variants.{North, East, South, West}
 use Rattle.model.specs.Cells.{beside}
 use Rattle.model.specs.Costs.{openAt}
-use Rattle.model.specs.Windows.{bits, isOpen}
+use Rattle.model.specs.Windows.{isOpen}
 use Rattle.model.specs.WindowRuns.{bits-small, bits-open}
 use Rattle.portal.specs.Levels.{spot, packed, openRow, openWord, openWords, around, grownWord, wordAt, Grown, cellBit}
 use Rattle.portal.proofs.Bits.{bitAt, and-bit, or-bit, none-bit, down-bit, up-bit, up-low, cut-bit, high-bit, or-none, xor-none}

@@ -11,7 +11,7 @@ use borrow.Author.Tests.{ltb-true, lt-ltb, le-ltb}
 use Rattle.laws.specs.Fold.{pick}
 use Rattle.laws.specs.Table.{tabulate, table-at}
 use Rattle.laws.specs.Graph.{Graph}
-use Rattle.laws.specs.Choice.{In, in-cons, nothing, best, winner, pairs, leads-winner}
+use Rattle.laws.specs.Choice.{In, in-cons, nothing, best, winner, leads-winner}
 use Rattle.laws.specs.Spans.{spans, cell, pairs-in-row, spans-none, spans-leads}
 use Rattle.model.specs.Sectors.{sectorOf}
 use Rattle.model.specs.Moves.{joined, apart}

@@ -1,31 +1,29 @@
 -- What a route found becomes in the call's answer and in the lent list, and the cases in which code finds it.
-use Prim.Native.Nat.{ℕ, zero, suc, _+_, _*_, _/_, _%_, _≤_, _<_}
+use Prim.Native.Nat.{ℕ, _+_, _*_, _/_, _%_, _≤_, _<_}
 use native.Mathlib.Omega.{arith}
 use mathlib.Core.Path.{_≡_, refl, sym, ap, _∙_}
-use mathlib.Core.Logic.{_⊎_, inl, inr}
-use mathlib.Core.Bool.{Bool, true, false, _&&_}
+use mathlib.Core.Bool.{Bool, true, false}
 use mathlib.Core.List.{List, [], _∷_, _++_}
-use lib.Dec.{ltb, eqb}
+use lib.Dec.{ltb}
 use lib.ListN.{length, getD, take, drop, length-append, length-drop}
 use lib.Seq.{take-at}
-use borrow.Author.Tests.{ltb-true, ltb-false, lt-ltb, le-ltb, eq-eqb, ne-eqb}
-use Rattle.laws.specs.Fold.{pick, false-ne-true}
+use borrow.Author.Tests.{lt-ltb, le-ltb}
+use Rattle.laws.specs.Fold.{pick}
 use Rattle.laws.specs.Ladder.{refuse}
-use Rattle.laws.specs.Search.{both}
 use Rattle.laws.specs.Choice.{nothing}
 use Rattle.model.specs.declared.Measures.{Measures}
 use Rattle.model.specs.declared.RouteStep.{RouteStep}
 use Rattle.model.specs.declared.Routed.{Routed}
 use Rattle.model.specs.declared.Routed.the-variants as routed-as
 use Rattle.model.specs.Sectors.{sectors, sectorAt, sectorOf, placeOf}
-use Rattle.model.specs.Steps.{lastStep, stepBytes, flatSteps}
+use Rattle.model.specs.Steps.{lastStep, flatSteps}
 use Rattle.model.specs.Moves.{movesTo, joined, apart}
 use Rattle.model.specs.MovesFewest.{joined-is}
 use Rattle.model.specs.Halls.{Hall}
 use Rattle.model.specs.Portals.{isPortal, portalGraph}
 use Rattle.model.specs.LeastPath.{unlinked, keysTo, costOfKey, leastPath}
 use Rattle.model.specs.LeastPathFirst.{Fits}
-use Rattle.model.specs.Route.{Found, none, route, Pair, endOf, runOf, stepsOf, chosenPair, throughPair, throughPortals, oneStep, routeOf}
+use Rattle.model.specs.Route.{Found, none, route, endOf, runOf, stepsOf, chosenPair, throughPair, throughPortals, oneStep, routeOf}
 use Rattle.model.specs.Calls.{ifAccepted, stepList, routed}
 use Rattle.graph.specs.Near.{leg-moves, last-moves, near-portal}
 use Rattle.route.specs.Choosing.{Chosen, legAt, lastAt}

@@ -22,6 +22,7 @@ use Rattle.model.specs.Nearby.{on-axis}
 use Rattle.model.specs.PlainFloor.{column-is, row-is}
 use Rattle.model.specs.Scaling.{isWall}
 use Rattle.fields.specs.Bounds.{eastward-small, southward-small, stepped-small}
+use Rattle.sector_cost.specs.Costs.{Small}
 use Rattle.sector_cost.specs.Lines.{onLine}
 
 -- what place p shows: the cost of a cell of the floor, or a wall
@@ -69,12 +70,12 @@ place-parts : (p : ℕ) → 1 ≤ p % 120 / 10 → 1 ≤ p / 120 / 10 → p ≡ 
 place-parts p h k = omega arith
 
 -- the same from sector s, whose column and row are below ten
-module _ (m : Measures) (s : ℕ) (wide : m .columns ≤ 10) (some : 1 ≤ m .rows) (tall : m .rows ≤ 10) (on : s < sectors m) where
+module _ (m : Measures) (s : ℕ) (small : Small m) (on : s < sectors m) where
   column-few : columnOf m s ≤ 9
-  column-few = omega (arith, div-lt-iff-lt-mul some .1 on)
+  column-few = omega (arith, div-lt-iff-lt-mul (small .rows) .1 on)
 
   row-few : rowOf m s ≤ 9
-  row-few = omega (arith, mod-lt s some)
+  row-few = omega (arith, mod-lt s (small .rows))
 
   -- all its cells are on the board
   pub corner-high : corner m s + 1090 ≤ 14400

@@ -1,8 +1,7 @@
 -- `scale_costfield` is the run over the cells of a sector.
 use Prim.Native.Nat.{_-_}
 use native.Mathlib.Omega.{arith}
-use mathlib.Core.Path.{_∙_}
-use Rattle.laws.specs.Fold.{Ran, ran-turn, counting}
+use Rattle.laws.specs.Fold.{Ran, counting}
 use Rattle.model.specs.Scaling.{scaleCell, scaleSector}
 use Rattle.sector_cost.specs.Board.{board-long}
 use Rattle.sector_cost.specs.Walks.{Shows, shows-long}

@@ -2,7 +2,6 @@
 use Prim.Native.Nat.{_*_, _≤_}
 use native.Mathlib.Omega.{arith}
 use native.Mathlib.Nat.{div-le-self, mod-le, mul-le-mul, le-pred-of-lt}
-use Rattle.model.specs.Directions.{shifted}
 use borrow.Author.Needs.{needs}
 use Rattle.fields.proofs.directions.shifted.Statement.{statement}
 use Rattle.fields.proofs.directions.shifted.Tie as tie

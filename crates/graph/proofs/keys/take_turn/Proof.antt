@@ -1,5 +1,4 @@
 -- `take_turn` takes all arcs of a number, or the one to the facing portal where no other offers anything.
-use mathlib.Core.Path.{_≡_}
 use borrow.Author.Needs.{needs}
 use denote.Ref.{now}
 use Rattle.graph.specs.Turns.{served-alone}

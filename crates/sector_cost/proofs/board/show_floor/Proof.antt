@@ -1,6 +1,5 @@
 -- `show_floor` shows the floor row by row; before its first row and after its last there are walls.
 use Prim.Native.Nat.{_-_, _*_, _≤_}
-use native.Mathlib.Omega.{arith}
 use Rattle.sector_cost.specs.Showing.{Showing, rowStart, floor-start, floor-end}
 use borrow.Author.Needs.{needs}
 use Rattle.sector_cost.proofs.board.show_floor.Statement.{statement}

@@ -54,7 +54,7 @@ add-b-3 : tie.Need-add-b-3
 add-b-3 c = search needs
 
 copy-part-requires : tie.Need-copy-part-requires
-copy-part-requires c κs = (fits (c .before), omega (arith, start (c .before) .pre .0 .wide, start (c .before) .pre .0 .tall, start (c .before) .pre .3 .passed .long))
+copy-part-requires c κs = (fits (c .before), omega (arith, start (c .before) .pre .0 .small .wide, start (c .before) .pre .0 .small .tall, start (c .before) .pre .3 .passed .long))
 
 same-length : tie.Need-same-length
 same-length c = search needs

@@ -2,7 +2,6 @@
 use Prim.Native.Nat.{_+_, _-_}
 use native.Mathlib.Omega.{arith}
 use mathlib.Core.Path.{_∙_}
-use lib.ListN.{length-set}
 use Rattle.laws.specs.Fold.{Ran, ran-turn, counting}
 use Rattle.model.specs.Scaling.{blockStep}
 use Rattle.fields.specs.Bounds.{eastward-small, southward-small}

@@ -1,6 +1,6 @@
 -- `scale_in_directions` makes the eight walks one after the other, in 01's order.
 use native.Mathlib.Omega.{arith}
-use mathlib.Core.Path.{_≡_, refl}
+use mathlib.Core.Path.{refl}
 use denote.Ref.{now}
 use Rattle.laws.specs.Fold.{run-none}
 use Rattle.model.specs.Scaling.{walk}
