@@ -78,8 +78,8 @@
  *
  * The library has no state of its own, allocates nothing, and calls only memcpy, memmove and memset.
  * Calls may run in several threads at a time, as long as none writes memory that another reads or
- * writes. hall_route needs about 190 kB of stack, the other calls up to 25 kB: a thread with
- * HALL_STACK_BYTES is enough for each.
+ * writes. hall_route needs about 190 kB of stack, hall_change about 40 kB, the other calls up to
+ * 30 kB: a thread with HALL_STACK_BYTES is enough for each.
  */
 #ifndef HALL_H
 #define HALL_H
@@ -142,7 +142,12 @@ typedef struct hall_windows_answer {
  *
  * The step leads to the cell with index goal in sector column,row: the midpoint of the window on that
  * side from cell first to cell last. The last step has no window: its goal is the route's, its side is
- * HALL_NO_WINDOW, first and last are 0. */
+ * HALL_NO_WINDOW, first and last are 0.
+ *
+ * Go by the sectors: the next step's sector says which border the route crosses, and mostly the step's
+ * window lies on it. But where the first step's cell is a corner, the midpoint of two windows of its
+ * sector, the step may name the other one; the steps after it then name the window by which their
+ * sector is entered. */
 typedef struct hall_step {
     uint8_t column;
     uint8_t row;
@@ -201,7 +206,10 @@ uint8_t hall_build(uint8_t columns, uint8_t rows, uint8_t scale,
 uint8_t hall_check_store(const uint8_t *store, size_t store_length);
 
 /* Change: gives the cell with this floor number a base cost, and scales and marks its sector and the
- * up to 8 around it afresh.
+ * up to 8 around it afresh. Other sectors keep their scaled costs and marks, stale or not, and a change
+ * to the cost that the cell has may alter the store too. So a changed store may differ from one built
+ * anew from the same base costs: two routers agree if they are given the same changes in the same
+ * order. At scale 1 the two are the same, and 22 cannot occur in a hall that was built and changed.
  *
  * Refusals: those of the store check, 21, 22. */
 uint8_t hall_change(uint8_t *store, size_t store_length, size_t floor_number, uint8_t cost);

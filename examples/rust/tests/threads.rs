@@ -7,7 +7,7 @@ use hall::{BLOCKED, MOST_STEPS, MOST_WINDOWS, Measures, Routed, STACK_BYTES, Ste
 const MEASURES: Measures = Measures {
     columns: 10,
     rows: 10,
-    scale: 1,
+    scale: 9,
 };
 
 /// Builds the hall, changes a cell, and adds up leg and run of a route from corner to corner.
