@@ -25,12 +25,22 @@ use Rattle.fields.specs.Bounds.{eastward-small, southward-small, stepped-small}
 use Rattle.sector_cost.specs.Costs.{Small}
 use Rattle.sector_cost.specs.Lines.{onLine}
 
+-- the sector that place p lies in, by column and row, each plus one; whether there is such a sector; and the floor number of the cell there
+abbrev pub columnAt : ℕ → ℕ
+columnAt p = p % 120 / 10
+
+abbrev pub rowAt : ℕ → ℕ
+rowAt p = p / 120 / 10
+
+abbrev pub isCell : Measures → ℕ → Bool
+isCell m p = onAxis (columnAt p) (m .columns) && onAxis (rowAt p) (m .rows)
+
+abbrev pub numberAt : Measures → ℕ → ℕ
+numberAt m p = floorNumber (sectorNumber m (columnAt p - 1) (rowAt p - 1)) (p / 120 % 10 * 10 + p % 120 % 10)
+
 -- what place p shows: the cost of a cell of the floor, or a wall
 unfoldable pub shown : Measures → List ℕ → ℕ → ℕ
-shown m xs p =
-    pick (onAxis (p % 120 / 10) (m .columns) && onAxis (p / 120 / 10) (m .rows))
-    (getD xs (floorNumber (sectorNumber m (p % 120 / 10 - 1) (p / 120 / 10 - 1)) (p / 120 % 10 * 10 + p % 120 % 10)) 255)
-    255
+shown m xs p = pick (isCell m p) (getD xs (numberAt m p) 255) 255
 
 unfoldable pub boardOf : Measures → List ℕ → List ℕ
 boardOf m xs = tabulate (shown m xs) 14400 0
@@ -66,7 +76,7 @@ shown-at m xs c r x y few small =
     rw (column, row, left, top)
 
 -- a place past the walls before the floor, by its sector column and row and its place in the sector
-place-parts : (p : ℕ) → 1 ≤ p % 120 / 10 → 1 ≤ p / 120 / 10 → p ≡ ((p / 120 / 10 - 1) * 10 + (p / 120 % 10 + 10)) * 120 + ((p % 120 / 10 - 1) * 10 + (p % 120 % 10 + 10))
+place-parts : (p : ℕ) → 1 ≤ columnAt p → 1 ≤ rowAt p → p ≡ ((rowAt p - 1) * 10 + (p / 120 % 10 + 10)) * 120 + ((columnAt p - 1) * 10 + (p % 120 % 10 + 10))
 place-parts p h k = omega arith
 
 -- the same from sector s, whose column and row are below ten
@@ -155,25 +165,22 @@ module _ (m : Measures) (s : ℕ) (small : Small m) (on : s < sectors m) where
     -- another place shows what it did
     there : (p : ℕ) → (p ≡ spot (corner m s) j → ⊥) → shown m ys p ≡ shown m xs p
     unfolding shown
-    there p other = go (onAxis (p % 120 / 10) (m .columns) && onAxis (p / 120 / 10) (m .rows)) refl
+    there p other = go (isCell m p) refl
       where
         c : ℕ
-        c = p % 120 / 10 - 1
+        c = columnAt p - 1
 
         r : ℕ
-        r = p / 120 / 10 - 1
+        r = rowAt p - 1
 
-        n : ℕ
-        n = floorNumber (sectorNumber m c r) (p / 120 % 10 * 10 + p % 120 % 10)
-
-        go : (b : Bool) → onAxis (p % 120 / 10) (m .columns) && onAxis (p / 120 / 10) (m .rows) ≡ b → pick b (getD ys n 255) 255 ≡ pick b (getD xs n 255) 255
-        go true e = getD-set-other xs (floorNumber s j) n 255 255 (λ q. other (same q))
+        go : (b : Bool) → isCell m p ≡ b → pick b (getD ys (numberAt m p) 255) 255 ≡ pick b (getD xs (numberAt m p) 255) 255
+        go true e = getD-set-other xs (floorNumber s j) (numberAt m p) 255 255 (λ q. other (same q))
           where
-            same : n ≡ floorNumber s j → p ≡ spot (corner m s) j
+            same : numberAt m p ≡ floorNumber s j → p ≡ spot (corner m s) j
             same q =
-                let t = both (onAxis (p % 120 / 10) (m .columns)) (onAxis (p / 120 / 10) (m .rows)) e in
-                let across = on-axis (p % 120 / 10) (m .columns) (t .0) in
-                let down = on-axis (p / 120 / 10) (m .rows) (t .1) in
+                let t = both (onAxis (columnAt p) (m .columns)) (onAxis (rowAt p) (m .rows)) e in
+                let across = on-axis (columnAt p) (m .columns) (t .0) in
+                let down = on-axis (rowAt p) (m .rows) (t .1) in
                 let sector : sectorNumber m c r ≡ s = omega arith in
                 let column : columnOf m s ≡ c = ap (columnOf m) (sym sector) ∙ column-is m c r (omega arith) in
                 let row : rowOf m s ≡ r = ap (rowOf m) (sym sector) ∙ row-is m c r (omega arith) in

@@ -3,7 +3,7 @@ use Prim.Native.Nat.{ℕ, suc, _+_, _-_, _*_, _/_, _%_, _≤_, _<_}
 use native.Mathlib.Nat.{mul-le-mul, le-refl, suc-mul}
 use native.Mathlib.Omega.{arith}
 use mathlib.Core.Path.{_≡_, refl, sym, subst, _∙_}
-use mathlib.Core.Bool.{Bool, true, false, _&&_}
+use mathlib.Core.Bool.{Bool, true, false}
 use mathlib.Core.List.{List}
 use lib.Dec.{leb}
 use lib.ListN.{length, getD, replicate, length-replicate, getD-replicate}
@@ -13,11 +13,11 @@ use Rattle.laws.specs.Search.{both}
 use Rattle.laws.specs.Table.{Tabled, tabled-none, tabled-all, getD-default}
 use Rattle.laws.specs.Region.{region, within, length-region, getD-region, length-within, getD-below, getD-inside, getD-above}
 use Rattle.model.specs.declared.Measures.{Measures}
-use Rattle.model.specs.Sectors.{sectors, sectorNumber, floorNumber}
+use Rattle.model.specs.Sectors.{sectors}
 use Rattle.model.specs.Directions.{onAxis}
 use Rattle.model.specs.Nearby.{on-axis}
 use Rattle.sector_cost.specs.Costs.{Costs}
-use Rattle.sector_cost.specs.Board.{shown, shown-at, boardOf}
+use Rattle.sector_cost.specs.Board.{columnAt, rowAt, isCell, numberAt, shown, shown-at, boardOf}
 
 -- the places before k show what they must, those from k on a wall
 pub record Showing (m : Measures) (xs : List ℕ) (k : ℕ) (bs : List ℕ) : Type 0 where
@@ -25,15 +25,15 @@ pub record Showing (m : Measures) (xs : List ℕ) (k : ℕ) (bs : List ℕ) : Ty
   pub ahead : (p : ℕ) → k ≤ p → p < 14400 → getD bs p 0 ≡ 255
 
 -- a place that is on no cell of the floor
-wall-at : (m : Measures) (xs : List ℕ) (p : ℕ) → (1 ≤ p % 120 / 10 → p % 120 / 10 ≤ m .columns → 1 ≤ p / 120 / 10 → p / 120 / 10 ≤ m .rows → ⊥) → shown m xs p ≡ 255
+wall-at : (m : Measures) (xs : List ℕ) (p : ℕ) → (1 ≤ columnAt p → columnAt p ≤ m .columns → 1 ≤ rowAt p → rowAt p ≤ m .rows → ⊥) → shown m xs p ≡ 255
 unfolding shown
-wall-at m xs p off = go (onAxis (p % 120 / 10) (m .columns) && onAxis (p / 120 / 10) (m .rows)) refl
+wall-at m xs p off = go (isCell m p) refl
   where
-    go : (b : Bool) → onAxis (p % 120 / 10) (m .columns) && onAxis (p / 120 / 10) (m .rows) ≡ b → pick b (getD xs (floorNumber (sectorNumber m (p % 120 / 10 - 1) (p / 120 / 10 - 1)) (p / 120 % 10 * 10 + p % 120 % 10)) 255) 255 ≡ 255
+    go : (b : Bool) → isCell m p ≡ b → pick b (getD xs (numberAt m p) 255) 255 ≡ 255
     go true e =
-        let t = both (onAxis (p % 120 / 10) (m .columns)) (onAxis (p / 120 / 10) (m .rows)) e in
-        let across = on-axis (p % 120 / 10) (m .columns) (t .0) in
-        let down = on-axis (p / 120 / 10) (m .rows) (t .1) in
+        let t = both (onAxis (columnAt p) (m .columns)) (onAxis (rowAt p) (m .rows)) e in
+        let across = on-axis (columnAt p) (m .columns) (t .0) in
+        let down = on-axis (rowAt p) (m .rows) (t .1) in
         absurd (off (across .0) (across .1) (down .0) (down .1))
     go false e = refl
 
