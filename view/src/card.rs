@@ -2,6 +2,7 @@
 
 use crate::floor::CELLS;
 use crate::hall::{Hall, Window};
+use crate::words::counted;
 
 /// The most steps that a card has.
 const MOST_STEPS: usize = 1_001;
@@ -91,8 +92,7 @@ impl Card {
             Answer::Refused(number) => (format!("refused: {number}"), vec![]),
             Answer::None => ("there is no route".to_string(), vec![]),
             Answer::Route { steps, leg, run } => {
-                let plural = if steps.len() == 1 { "" } else { "s" };
-                let all = format!("{} step{plural}, leg {leg}, run {run}", steps.len());
+                let all = format!("{}, leg {leg}, run {run}", counted(steps.len(), "step"));
                 (all, steps.iter().map(Step::words).collect())
             }
         }

@@ -6,6 +6,7 @@ use crate::card::Card;
 use crate::floor::{BLOCKED, UNNAMED};
 use crate::svg::floor::shade;
 use crate::symbols;
+use crate::words::counted;
 
 /// The most costs that have an entry each.
 const MOST_COSTS: usize = 8;
@@ -32,12 +33,10 @@ pub fn draw(sheet: &mut Sheet, card: Option<&Card>) {
 
 fn title(sheet: &mut Sheet) {
     let floor = &sheet.hall.floor;
-    let plural =
-        |count: usize, name: &str| format!("{count} {name}{}", if count == 1 { "" } else { "s" });
     let text = format!(
         "{} by {}, trolley scale {}",
-        plural(floor.columns, "column"),
-        plural(floor.rows, "row"),
+        counted(floor.columns, "column"),
+        counted(floor.rows, "row"),
         floor.scale
     );
     sheet.add(label((LEFT, 18.0), &text, CELL * 0.72, &[("fill", &FAINT)]));
