@@ -1,7 +1,8 @@
 //! A route's card.
 
-use crate::floor::CELLS;
+use crate::floor::{CELLS, Place};
 use crate::hall::{Hall, Window};
+use crate::symbols;
 use crate::words::counted;
 
 /// The most steps that a card has.
@@ -14,7 +15,7 @@ const NO_WINDOW: u8 = 4;
 const LETTERS: [char; 4] = ['N', 'E', 'S', 'W'];
 const NAMES: [&str; 4] = ["north", "east", "south", "west"];
 
-/// One step: the cell to reach in a sector, and the window to leave by.
+/// One step: the cell to reach in a sector, and a window there; mostly the one to leave by.
 #[derive(Debug, Clone, Copy, PartialEq, Eq)]
 pub struct Step {
     pub sector: (usize, usize),
@@ -69,6 +70,16 @@ impl Card {
             Answer::Route { steps, .. } => steps,
             _ => &[],
         }
+    }
+
+    /// Goal and source with their letters, as far as they lie on the floor. Where they are one
+    /// cell, the source is drawn last.
+    pub fn ends(&self, hall: &Hall) -> Vec<(Place, char)> {
+        [(self.goal, symbols::GOAL), (self.source, symbols::SOURCE)]
+            .into_iter()
+            .filter(|(number, _)| *number < hall.floor.costs.len())
+            .map(|(number, letter)| (hall.floor.place(number), letter))
+            .collect()
     }
 
     /// The line that `hallroute` prints.

@@ -3,22 +3,20 @@
 use std::fmt::Display;
 
 use super::floor::span;
-use super::{CELL, END, ROUTE, Sheet, centred, circle, line, rect};
+use super::{CELL, END, ROUTE, STEP_WINDOW, Sheet, bar, centred, circle, line, rect};
 use crate::card::Card;
 use crate::floor::Place;
-use crate::symbols;
 use crate::walk::walk;
 
-pub fn draw(sheet: &mut Sheet, card: &Card) {
-    way(sheet, card);
+/// What lies below the costs and midpoints of the floor.
+pub fn draw_way(sheet: &mut Sheet, card: &Card) {
     windows(sheet, card);
-    let numbers = [(card.goal, symbols::GOAL), (card.source, symbols::SOURCE)];
-    let on_floor = numbers
-        .into_iter()
-        .filter(|(number, _)| *number < sheet.hall.floor.costs.len());
-    let ends: Vec<(Place, char)> = on_floor
-        .map(|(number, letter)| (sheet.hall.floor.place(number), letter))
-        .collect();
+    way(sheet, card);
+}
+
+/// What lies above them.
+pub fn draw_marks(sheet: &mut Sheet, card: &Card) {
+    let ends = card.ends(sheet.hall);
     for (place, letter) in &ends {
         sheet.add(end(sheet.centre(*place), *letter));
     }
@@ -45,7 +43,7 @@ fn windows(sheet: &mut Sheet, card: &Card) {
     for step in card.steps() {
         if let Some(window) = step.window {
             let ends = span(sheet, step.sector, window);
-            sheet.add(line(&ends, &[("stroke", &ROUTE), ("stroke-width", &3.4)]));
+            sheet.add(bar(&ends, STEP_WINDOW));
         }
     }
 }
