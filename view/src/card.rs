@@ -43,6 +43,13 @@ pub struct Card {
     pub answer: Answer,
 }
 
+/// A marked end of a route: its place, its letter and what that stands for.
+pub struct End {
+    pub place: Place,
+    pub letter: char,
+    pub name: &'static str,
+}
+
 impl Card {
     /// The card of a pair.
     pub fn of(hall: &Hall, source: usize, goal: usize) -> Card {
@@ -72,14 +79,29 @@ impl Card {
         }
     }
 
-    /// Goal and source with their letters, as far as they lie on the floor. Where they are one
-    /// cell, the source is drawn last.
-    pub fn ends(&self, hall: &Hall) -> Vec<(Place, char)> {
-        [(self.goal, symbols::GOAL), (self.source, symbols::SOURCE)]
-            .into_iter()
-            .filter(|(number, _)| *number < hall.floor.costs.len())
-            .map(|(number, letter)| (hall.floor.place(number), letter))
+    /// Source and goal, as far as they lie on the floor.
+    pub fn ends(&self, hall: &Hall) -> Vec<End> {
+        let ends = if self.source == self.goal {
+            vec![(self.source, symbols::SOURCE, "source and goal")]
+        } else {
+            vec![
+                (self.source, symbols::SOURCE, "source"),
+                (self.goal, symbols::GOAL, "goal"),
+            ]
+        };
+        ends.into_iter()
+            .filter(|(number, ..)| *number < hall.floor.costs.len())
+            .map(|(number, letter, name)| End {
+                place: hall.floor.place(number),
+                letter,
+                name,
+            })
             .collect()
+    }
+
+    /// Whether there is a way of one move or more.
+    pub fn has_way(&self) -> bool {
+        !self.steps().is_empty() && self.source != self.goal
     }
 
     /// The line that `hallroute` prints.

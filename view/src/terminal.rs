@@ -229,8 +229,8 @@ impl Canvas<'_> {
             let place = self.hall.place(step.sector, step.goal);
             self.put_cell(place, sign, Ink::Way);
         }
-        for (place, letter) in card.ends(self.hall) {
-            self.put_cell(place, letter, Ink::End);
+        for end in card.ends(self.hall) {
+            self.put_cell(end.place, end.letter, Ink::End);
         }
     }
 
@@ -292,16 +292,16 @@ fn legend(hall: &Hall, card: Option<&Card>) -> String {
     }
     entries.push(format!("{UPRIGHT_WINDOW}{LEVEL_WINDOW} window"));
     entries.push(format!("{MIDPOINT} its midpoint"));
-    entries.extend(card.map(card_legend).unwrap_or_default());
+    entries.extend(card.into_iter().flat_map(|card| card_legend(hall, card)));
     wrapped(&entries)
 }
 
 /// What a card adds to the legend. Its last step is the goal, and has no other sign.
-fn card_legend(card: &Card) -> Vec<String> {
-    let mut entries = vec![
-        format!("{} source", symbols::SOURCE),
-        format!("{} goal", symbols::GOAL),
-    ];
+fn card_legend(hall: &Hall, card: &Card) -> Vec<String> {
+    let ends = card.ends(hall).into_iter();
+    let mut entries: Vec<String> = ends
+        .map(|end| format!("{} {}", end.letter, end.name))
+        .collect();
     let (first, steps) = (FIRST_STEPS.chars().count(), card.steps().len());
     if steps > 1 {
         entries.push("① step of the card".to_string());
@@ -309,7 +309,7 @@ fn card_legend(card: &Card) -> Vec<String> {
     if steps > first + 1 {
         entries.push(format!("{LATER_STEP} step after the {first}th"));
     }
-    if steps > 0 {
+    if card.has_way() {
         entries.push("─ a way to drive it".to_string());
     }
     entries

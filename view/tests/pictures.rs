@@ -90,6 +90,8 @@ fn the_legend_tells_the_signs_of_a_card_that_are_drawn() {
     assert_told(&hall, Some(&Card::of(&hall, card.source, blocked)), 2);
     assert_told(&hall, Some(&card), 4);
     assert_told(&long, Some(&long_card), 5);
+    let standing = terminal::draw(&hall, Some(&Card::of(&hall, 344, 344)), false);
+    assert!(standing.contains("S source and goal\n"));
 }
 
 #[test]

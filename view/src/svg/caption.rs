@@ -7,6 +7,7 @@ use super::{
 };
 use crate::card::Card;
 use crate::floor::{BLOCKED, Floor, UNNAMED};
+use crate::hall::Hall;
 use crate::svg::floor::shade;
 use crate::symbols;
 use crate::words::counted;
@@ -55,7 +56,7 @@ fn entries(sheet: &Sheet, card: Option<&Card>) -> Vec<(Sample, String)> {
     entries.push((Sample::Cell(shade(UNNAMED)), "open at cost 1".into()));
     entries.extend(cost_entries(&hall.floor));
     entries.push((Sample::Window, "window and its midpoints".into()));
-    entries.extend(card.map(card_entries).unwrap_or_default());
+    entries.extend(card.into_iter().flat_map(|card| card_entries(hall, card)));
     entries
 }
 
@@ -76,16 +77,16 @@ fn cost_entries(floor: &Floor) -> Vec<(Sample, String)> {
 }
 
 /// The last step is drawn as the goal, and has no window.
-fn card_entries(card: &Card) -> Vec<(Sample, String)> {
-    let mut entries = vec![
-        (Sample::End(symbols::SOURCE), "source".to_string()),
-        (Sample::End(symbols::GOAL), "goal".to_string()),
-    ];
+fn card_entries(hall: &Hall, card: &Card) -> Vec<(Sample, String)> {
+    let ends = card.ends(hall).into_iter();
+    let mut entries: Vec<(Sample, String)> = ends
+        .map(|end| (Sample::End(end.letter), end.name.into()))
+        .collect();
     if card.steps().len() > 1 {
         entries.push((Sample::Step, "step of the card".into()));
         entries.push((Sample::StepWindow, "a step's window".into()));
     }
-    if !card.steps().is_empty() {
+    if card.has_way() {
         entries.push((Sample::Way, "a way to drive it".into()));
     }
     entries

@@ -4,7 +4,7 @@ use std::fmt::Display;
 
 use super::floor::span;
 use super::{CELL, END, ROUTE, STEP_WINDOW, Sheet, bar, centred, circle, line, rect};
-use crate::card::Card;
+use crate::card::{Card, End};
 use crate::floor::Place;
 use crate::walk::walk;
 
@@ -17,8 +17,8 @@ pub fn draw_way(sheet: &mut Sheet, card: &Card) {
 /// What lies above them.
 pub fn draw_marks(sheet: &mut Sheet, card: &Card) {
     let ends = card.ends(sheet.hall);
-    for (place, letter) in &ends {
-        sheet.add(end(sheet.centre(*place), *letter));
+    for marked in &ends {
+        sheet.add(end(sheet.centre(marked.place), marked.letter));
     }
     steps(sheet, card, &ends);
 }
@@ -50,14 +50,14 @@ fn windows(sheet: &mut Sheet, card: &Card) {
 
 /// The numbers of the steps, beside a source or goal that stands in the same cell. The last
 /// step is the goal.
-fn steps(sheet: &mut Sheet, card: &Card, ends: &[(Place, char)]) {
+fn steps(sheet: &mut Sheet, card: &Card, ends: &[End]) {
     for (number, step) in (1..).zip(card.steps()) {
         let place = sheet.hall.place(step.sector, step.goal);
         let (x, y) = sheet.centre(place);
         if step.window.is_none() {
             continue;
         }
-        if ends.iter().any(|(end, _)| *end == place) {
+        if ends.iter().any(|end| end.place == place) {
             let at = (x + CELL * 0.42, y - CELL * 0.42);
             sheet.add(badge(at, number, 0.62));
         } else {
