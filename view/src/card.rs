@@ -1,7 +1,9 @@
 //! A route's card.
 
-use crate::floor::CELLS;
+use crate::floor::{CELLS, Place};
 use crate::hall::{Hall, Window};
+use crate::symbols;
+use crate::words::counted;
 
 /// The most steps that a card has.
 const MOST_STEPS: usize = 1_001;
@@ -13,7 +15,7 @@ const NO_WINDOW: u8 = 4;
 const LETTERS: [char; 4] = ['N', 'E', 'S', 'W'];
 const NAMES: [&str; 4] = ["north", "east", "south", "west"];
 
-/// One step: the cell to reach in a sector, and the window to leave by.
+/// One step: the cell to reach in a sector, and a window there; mostly the one to leave by.
 #[derive(Debug, Clone, Copy, PartialEq, Eq)]
 pub struct Step {
     pub sector: (usize, usize),
@@ -39,6 +41,13 @@ pub struct Card {
     pub source: usize,
     pub goal: usize,
     pub answer: Answer,
+}
+
+/// A marked end of a route: its place, its letter and what that stands for.
+pub struct End {
+    pub place: Place,
+    pub letter: char,
+    pub name: &'static str,
 }
 
 impl Card {
@@ -70,6 +79,31 @@ impl Card {
         }
     }
 
+    /// Source and goal, as far as they lie on the floor.
+    pub fn ends(&self, hall: &Hall) -> Vec<End> {
+        let ends = if self.source == self.goal {
+            vec![(self.source, symbols::SOURCE, "source and goal")]
+        } else {
+            vec![
+                (self.source, symbols::SOURCE, "source"),
+                (self.goal, symbols::GOAL, "goal"),
+            ]
+        };
+        ends.into_iter()
+            .filter(|(number, ..)| *number < hall.floor.costs.len())
+            .map(|(number, letter, name)| End {
+                place: hall.floor.place(number),
+                letter,
+                name,
+            })
+            .collect()
+    }
+
+    /// Whether there is a way of one move or more.
+    pub fn has_way(&self) -> bool {
+        !self.steps().is_empty() && self.source != self.goal
+    }
+
     /// The line that `hallroute` prints.
     pub fn line(&self) -> String {
         let answer = match &self.answer {
@@ -91,8 +125,7 @@ impl Card {
             Answer::Refused(number) => (format!("refused: {number}"), vec![]),
             Answer::None => ("there is no route".to_string(), vec![]),
             Answer::Route { steps, leg, run } => {
-                let plural = if steps.len() == 1 { "" } else { "s" };
-                let all = format!("{} step{plural}, leg {leg}, run {run}", steps.len());
+                let all = format!("{}, leg {leg}, run {run}", counted(steps.len(), "step"));
                 (all, steps.iter().map(Step::words).collect())
             }
         }

@@ -1,6 +1,6 @@
 //! Drawings of a floor as plain text: settings, a legend, then the rows of the floor.
 
-use crate::floor::{Floor, LENGTH, MOST_SECTORS, Place};
+use crate::floor::{Floor, LENGTH, MOST_SECTORS, Place, UNNAMED};
 use crate::problem::Problem;
 use crate::symbols;
 
@@ -92,7 +92,7 @@ impl Reader {
     /// A word and something behind it, which is no row.
     fn is_setting(&self, text: &str, words: &[&str]) -> bool {
         let letters = words[0].chars().all(char::is_alphabetic);
-        let mut cells = text.chars().filter(|c| !"| ".contains(*c));
+        let mut cells = text.chars().filter(|c| !"| \t".contains(*c));
         letters && words[0].len() > 1 && words.len() > 1 && cells.any(|c| self.cost(c).is_none())
     }
 
@@ -331,6 +331,9 @@ fn ruling_in_row(line: usize, column: usize, symbol: char, cells: usize) -> Resu
 }
 
 fn unknown(symbol: char) -> String {
+    if symbol == '\t' {
+        return "a tab: draw each cell, and use spaces between sectors".to_string();
+    }
     if symbol.is_control() {
         let code = symbol.escape_default();
         return format!("no cell is drawn as `{code}` (the name of a hall file ends in .hall)");
@@ -340,9 +343,17 @@ fn unknown(symbol: char) -> String {
     )
 }
 
-/// The drawing of a floor, with rulings between sectors.
+/// Whether source and goal can both be marked: a mark is a cell of cost 1, and a cell has
+/// one mark.
+fn can_mark(floor: &Floor, (source, goal): (Place, Place)) -> bool {
+    let costs = [source, goal].map(|place| floor.costs[floor.number(place)]);
+    source != goal && costs == [UNNAMED; 2]
+}
+
+/// The drawing of a floor, with rulings between sectors; its ends are marked if both can be.
 pub fn write(floor: &Floor, ends: Option<(Place, Place)>) -> String {
     let table = symbols::table(floor);
+    let ends = ends.filter(|ends| can_mark(floor, *ends));
     let mut text = format!("scale {}\n", floor.scale);
     for (symbol, cost) in table
         .iter()
@@ -361,8 +372,8 @@ pub fn write(floor: &Floor, ends: Option<(Place, Place)>) -> String {
         }
         let cost = floor.costs[floor.number((x, y))];
         text.push(match ends {
-            Some((source, _)) if source == (x, y) && cost == 1 => symbols::SOURCE,
-            Some((_, goal)) if goal == (x, y) && cost == 1 => symbols::GOAL,
+            Some((source, _)) if source == (x, y) => symbols::SOURCE,
+            Some((_, goal)) if goal == (x, y) => symbols::GOAL,
             _ => symbols::symbol_of(&table, cost),
         });
         if x + 1 == floor.width() {

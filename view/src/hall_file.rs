@@ -4,6 +4,8 @@ use crate::floor::{CELLS, Floor, MOST_SECTORS, UNNAMED};
 
 /// Bytes before the entries of a hall file.
 const HEAD: usize = 5;
+/// Bytes of a pair.
+const PAIR: usize = 4;
 
 /// The hall file of a floor: columns, rows, scale, count, floor numbers, costs.
 pub fn write(floor: &Floor) -> Vec<u8> {
@@ -27,8 +29,16 @@ pub fn write_pair((source, goal): (usize, usize)) -> Vec<u8> {
     [source as u16, goal as u16].map(u16::to_le_bytes).concat()
 }
 
-/// A hall file and the pairs behind it, or the number of 01's refusal.
-pub fn read(bytes: &[u8]) -> Result<(Floor, Vec<(usize, usize)>), u8> {
+/// A hall file's floor, the pairs behind it, and how many bytes behind those make no pair.
+#[derive(Debug, Clone, PartialEq, Eq)]
+pub struct HallFile {
+    pub floor: Floor,
+    pub pairs: Vec<(usize, usize)>,
+    pub spare: usize,
+}
+
+/// Reads a hall file and the pairs behind it, or gives the number of 01's refusal.
+pub fn read(bytes: &[u8]) -> Result<HallFile, u8> {
     let (file, pairs) = bytes.split_at(file_length(bytes));
     // The proved call fills a list that fits the first two bytes, if they are a floor's.
     let sectors = |at: usize| {
@@ -47,13 +57,14 @@ pub fn read(bytes: &[u8]) -> Result<(Floor, Vec<(usize, usize)>), u8> {
         costs,
         legend: vec![],
     };
-    Ok((
+    let pairs = pairs.chunks_exact(PAIR);
+    Ok(HallFile {
         floor,
-        pairs
-            .chunks_exact(4)
+        spare: pairs.remainder().len(),
+        pairs: pairs
             .map(|pair| (u16_at(pair, 0), u16_at(pair, 2)))
             .collect(),
-    ))
+    })
 }
 
 /// The first 5 + 3 × count bytes, or all if fewer.

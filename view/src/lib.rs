@@ -12,3 +12,4 @@ pub mod svg;
 pub mod symbols;
 pub mod terminal;
 pub mod walk;
+pub mod words;

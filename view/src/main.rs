@@ -1,5 +1,7 @@
 //! Program `hallview`: a drawing or a hall file in; pictures, hall file and drawing out.
 
+mod options;
+
 use std::io::{self, IsTerminal, Read, Write};
 use std::process::ExitCode;
 use std::{env, fs};
@@ -7,36 +9,16 @@ use std::{env, fs};
 use hallview::card::Card;
 use hallview::floor::Floor;
 use hallview::hall::Hall;
+use hallview::words::counted;
 use hallview::{drawing, hall_file, svg, terminal};
-
-const USAGE: &str = "usage: hallview FLOOR [options]
-  FLOOR                a drawing; or, if its name ends in .hall, a hall file, with or
-                       without pairs behind it. - reads a drawing from standard input
-  --route SOURCE GOAL  the route to draw, by floor numbers or by x,y
-  --pair N             the N-th pair behind a hall file, from 1 on (otherwise the first)
-  --svg FILE           writes the picture as SVG
-  --hall FILE          writes the hall file
-  --input FILE         writes what hallroute reads: the hall file and the pair
-  --drawing FILE       writes the drawing
-  --plain              no colours in the terminal
-  --quiet              nothing in the terminal";
-
-/// What is asked on the command line.
-#[derive(Default)]
-struct Options {
-    floor: Option<String>,
-    route: Option<(String, String)>,
-    pair: Option<usize>,
-    svg: Option<String>,
-    hall: Option<String>,
-    input: Option<String>,
-    drawing: Option<String>,
-    plain: bool,
-    quiet: bool,
-}
+use options::{Options, Task};
 
 fn main() -> ExitCode {
-    match options().and_then(|options| run(&options)) {
+    let done = options::read(env::args().skip(1)).and_then(|task| match task {
+        Task::Help(usage) => print(format!("{usage}\n").as_bytes()),
+        Task::Draw(options) => run(&options),
+    });
+    match done {
         Ok(()) => ExitCode::SUCCESS,
         Err(text) => {
             eprintln!("{text}");
@@ -45,34 +27,8 @@ fn main() -> ExitCode {
     }
 }
 
-fn options() -> Result<Options, String> {
-    let mut options = Options::default();
-    let mut words = env::args().skip(1);
-    while let Some(word) = words.next() {
-        let mut value = || {
-            words
-                .next()
-                .ok_or(format!("{word}: something is missing\n{USAGE}"))
-        };
-        match word.as_str() {
-            "--route" => options.route = Some((value()?, value()?)),
-            "--pair" => options.pair = Some(value()?.parse().map_err(|_| "--pair takes a number")?),
-            "--svg" => options.svg = Some(value()?),
-            "--hall" => options.hall = Some(value()?),
-            "--input" => options.input = Some(value()?),
-            "--drawing" => options.drawing = Some(value()?),
-            "--plain" => options.plain = true,
-            "--quiet" => options.quiet = true,
-            _ if word.starts_with("--") || options.floor.is_some() => return Err(USAGE.into()),
-            _ => options.floor = Some(word),
-        }
-    }
-    Ok(options)
-}
-
 fn run(options: &Options) -> Result<(), String> {
-    let name = options.floor.as_ref().ok_or(USAGE)?;
-    let (floor, pairs) = read(name)?;
+    let (floor, pairs) = read(&options.floor)?;
     let pair = pair(options, &floor, &pairs)?;
     let hall = Hall::build(floor);
     let card = pair.map(|(source, goal)| Card::of(&hall, source, goal));
@@ -93,15 +49,11 @@ fn run(options: &Options) -> Result<(), String> {
         drawing::write(&hall.floor, ends).as_bytes(),
     )?;
     write(&options.svg, svg::draw(&hall, card.as_ref()).as_bytes())?;
-    if !options.quiet {
-        let colours =
-            !options.plain && io::stdout().is_terminal() && env::var_os("NO_COLOR").is_none();
-        let text = terminal::draw(&hall, card.as_ref(), colours);
-        io::stdout()
-            .write_all(text.as_bytes())
-            .map_err(|error| error.to_string())?;
+    if options.quiet {
+        return Ok(());
     }
-    Ok(())
+    let colours = !options.plain && io::stdout().is_terminal() && env::var_os("NO_COLOR").is_none();
+    print(terminal::draw(&hall, card.as_ref(), colours).as_bytes())
 }
 
 /// A floor, and the pairs that come with it.
@@ -113,14 +65,28 @@ fn read(name: &str) -> Result<(Floor, Vec<(usize, usize)>), String> {
     };
     let bytes = read.map_err(|error| format!("{name}: {error}"))?;
     if name.ends_with(".hall") {
-        return hall_file::read(&bytes)
-            .map_err(|number| format!("{name}: refused {number}, {}", hall_file::meaning(number)));
+        return read_hall_file(name, &bytes);
     }
     let drawn = drawing::read(&bytes).map_err(|problem| format!("{name}: {problem}"))?;
     let pairs = drawn
         .ends
         .map(|(source, goal)| (drawn.floor.number(source), drawn.floor.number(goal)));
     Ok((drawn.floor, pairs.into_iter().collect()))
+}
+
+/// Spare bytes are told, as `hallroute` does; the hall is drawn all the same.
+fn read_hall_file(name: &str, bytes: &[u8]) -> Result<(Floor, Vec<(usize, usize)>), String> {
+    let read = hall_file::read(bytes).map_err(|number| {
+        let meaning = hall_file::meaning(number);
+        format!(
+            "{name}: refused {number}, {meaning} (a name that ends in .hall is read as a hall file)"
+        )
+    })?;
+    if read.spare > 0 {
+        let spare = counted(read.spare, "spare byte");
+        eprintln!("{name}: cut: {spare} behind the pairs; a pair has 4 bytes");
+    }
+    Ok((read.floor, read.pairs))
 }
 
 /// The pair whose route is drawn.
@@ -132,41 +98,46 @@ fn pair(
     if let Some((source, goal)) = &options.route {
         return Ok(Some((number(floor, source)?, number(floor, goal)?)));
     }
-    match options.pair {
-        None => Ok(pairs.first().copied()),
-        Some(wanted) => {
-            let pair = wanted.checked_sub(1).and_then(|at| pairs.get(at));
-            pair.map(|pair| Some(*pair)).ok_or(format!(
-                "there are {} pairs, and no pair {wanted}",
-                pairs.len()
-            ))
-        }
-    }
+    let Some(wanted) = options.pair else {
+        return Ok(pairs.first().copied());
+    };
+    let pair = wanted.checked_sub(1).and_then(|at| pairs.get(at));
+    pair.map(|pair| Some(*pair)).ok_or(format!(
+        "{} has {}: there is no pair {wanted}",
+        options.floor,
+        counted(pairs.len(), "pair")
+    ))
 }
 
 /// A floor number, or the one at x,y.
 fn number(floor: &Floor, text: &str) -> Result<usize, String> {
-    let wrong = || format!("`{text}` is neither a floor number nor x,y on the floor");
-    let Some((x, y)) = text.split_once(',') else {
-        return text
-            .parse()
-            .ok()
-            .filter(|number| *number < 65_536)
-            .ok_or_else(wrong);
+    let number = match text.split_once(',') {
+        None => text.parse().ok(),
+        Some((x, y)) => x.parse().ok().zip(y.parse().ok()).and_then(|place| {
+            let (x, y): (usize, usize) = place;
+            (x < floor.width() && y < floor.height()).then(|| floor.number(place))
+        }),
     };
-    match (x.parse(), y.parse()) {
-        (Ok(x), Ok(y)) if x < floor.width() && y < floor.height() => Ok(floor.number((x, y))),
-        _ => Err(wrong()),
-    }
+    let cells = floor.costs.len();
+    number.filter(|number| *number < cells).ok_or(format!(
+        "`{text}` is no cell of the floor: floor numbers are 0 to {}, x,y are 0,0 to {},{}",
+        cells - 1,
+        floor.width() - 1,
+        floor.height() - 1
+    ))
 }
 
 /// Writes a file that was asked for; - is standard output.
 fn write(name: &Option<String>, bytes: &[u8]) -> Result<(), String> {
     match name.as_deref() {
         None => Ok(()),
-        Some("-") => io::stdout()
-            .write_all(bytes)
-            .map_err(|error| error.to_string()),
+        Some("-") => print(bytes),
         Some(name) => fs::write(name, bytes).map_err(|error| format!("{name}: {error}")),
     }
+}
+
+fn print(bytes: &[u8]) -> Result<(), String> {
+    io::stdout()
+        .write_all(bytes)
+        .map_err(|error| error.to_string())
 }

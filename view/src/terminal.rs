@@ -1,5 +1,7 @@
 //! A floor as text: cells, sector borders, windows, midpoints, and the way of a card.
 
+use std::iter::repeat;
+
 use crate::card::Card;
 use crate::floor::{BLOCKED, LENGTH, Place, UNNAMED};
 use crate::hall::{Hall, over};
@@ -16,6 +18,10 @@ const NARROW: char = '░';
 const MIDPOINT: char = '●';
 const UPRIGHT_WINDOW: char = '┊';
 const LEVEL_WINDOW: char = '┈';
+/// The first steps by number. Circled numbers above 20 take two columns of a terminal, so
+/// later steps share a sign.
+const FIRST_STEPS: &str = "①②③④⑤⑥⑦⑧⑨⑩⑪⑫⑬⑭⑮⑯⑰⑱⑲⑳";
+const LATER_STEP: char = '◉';
 
 /// What a character shows, which decides its colour.
 #[derive(Clone, Copy, PartialEq, Eq)]
@@ -60,7 +66,7 @@ pub fn draw(hall: &Hall, card: Option<&Card>, colours: bool) -> String {
     if let Some(card) = card {
         canvas.steps(card);
     }
-    canvas.text(colours) + "\n" + &legend(hall) + &card.map(words).unwrap_or_default()
+    canvas.text(colours) + "\n" + &legend(hall, card) + &card.map(words).unwrap_or_default()
 }
 
 impl Canvas<'_> {
@@ -216,16 +222,15 @@ impl Canvas<'_> {
         }
     }
 
-    /// The numbers of the steps at their cells, and source and goal.
+    /// The signs of the steps at their cells, and source and goal.
     fn steps(&mut self, card: &Card) {
-        for (number, step) in (1..).zip(card.steps()) {
+        let signs = FIRST_STEPS.chars().chain(repeat(LATER_STEP));
+        for (sign, step) in signs.zip(card.steps()) {
             let place = self.hall.place(step.sector, step.goal);
-            self.put_cell(place, circled(number), Ink::Way);
+            self.put_cell(place, sign, Ink::Way);
         }
-        for (number, letter) in [(card.goal, symbols::GOAL), (card.source, symbols::SOURCE)] {
-            if number < self.hall.floor.costs.len() {
-                self.put_cell(self.hall.floor.place(number), letter, Ink::End);
-            }
+        for end in card.ends(self.hall) {
+            self.put_cell(end.place, end.letter, Ink::End);
         }
     }
 
@@ -275,18 +280,7 @@ fn line_through(sides: u8) -> char {
     ][usize::from(sides)]
 }
 
-/// A number of one character, as far as there are such.
-fn circled(number: u32) -> char {
-    let code = match number {
-        1..=20 => 0x2460 + number - 1,
-        21..=35 => 0x3251 + number - 21,
-        36..=50 => 0x32b1 + number - 36,
-        _ => 0x25c9,
-    };
-    char::from_u32(code).unwrap_or('*')
-}
-
-fn legend(hall: &Hall) -> String {
+fn legend(hall: &Hall, card: Option<&Card>) -> String {
     let mut entries = vec!["█ blocked".to_string()];
     if hall.floor.places().any(|place| hall.is_narrow(place)) {
         entries.push(format!("{NARROW} blocked by the trolley's width"));
@@ -296,9 +290,29 @@ fn legend(hall: &Hall) -> String {
     for (symbol, cost) in others.filter(|(_, cost)| ![UNNAMED, BLOCKED].contains(cost)) {
         entries.push(format!("{symbol} open at cost {cost}"));
     }
-    entries.push(format!("{UPRIGHT_WINDOW} window"));
+    entries.push(format!("{UPRIGHT_WINDOW}{LEVEL_WINDOW} window"));
     entries.push(format!("{MIDPOINT} its midpoint"));
+    entries.extend(card.into_iter().flat_map(|card| card_legend(hall, card)));
     wrapped(&entries)
+}
+
+/// What a card adds to the legend. Its last step is the goal, and has no other sign.
+fn card_legend(hall: &Hall, card: &Card) -> Vec<String> {
+    let ends = card.ends(hall).into_iter();
+    let mut entries: Vec<String> = ends
+        .map(|end| format!("{} {}", end.letter, end.name))
+        .collect();
+    let (first, steps) = (FIRST_STEPS.chars().count(), card.steps().len());
+    if steps > 1 {
+        entries.push("① step of the card".to_string());
+    }
+    if steps > first + 1 {
+        entries.push(format!("{LATER_STEP} step after the {first}th"));
+    }
+    if card.has_way() {
+        entries.push("─ a way to drive it".to_string());
+    }
+    entries
 }
 
 /// Entries in lines of at most 78 characters.
@@ -319,8 +333,9 @@ fn wrapped(entries: &[String]) -> String {
 fn words(card: &Card) -> String {
     let (all, steps) = card.words();
     let mut text = format!("\n{}\n  {all}\n", card.line());
+    let width = steps.len().to_string().len();
     for (number, step) in (1..).zip(steps) {
-        text.push_str(&format!("  {} {step}\n", circled(number)));
+        text.push_str(&format!("  {number:>width$}  {step}\n"));
     }
     text
 }

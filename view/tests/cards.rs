@@ -5,7 +5,7 @@ use std::fs;
 use hallview::card::{Answer, Card};
 use hallview::floor::{Floor, Place};
 use hallview::hall::Hall;
-use hallview::hall_file;
+use hallview::hall_file::{self, HallFile};
 use hallview::walk::walk;
 
 const SAMPLES: [&str; 3] = ["chutes", "corner_gate", "two_sectors"];
@@ -22,7 +22,7 @@ fn sample(name: &str) -> Vec<u8> {
 fn cards_are_the_lines_of_hallroute() {
     for name in SAMPLES {
         let input = sample(name);
-        let (floor, pairs) = hall_file::read(&input).unwrap();
+        let HallFile { floor, pairs, .. } = hall_file::read(&input).unwrap();
         let hall = Hall::build(floor);
         let card = |pair: &(usize, usize)| Card::of(&hall, pair.0, pair.1).line() + "\n";
         let lines: String = pairs.iter().map(card).collect();
@@ -33,10 +33,10 @@ fn cards_are_the_lines_of_hallroute() {
 #[test]
 fn a_hall_file_that_is_written_reads_as_the_same_hall() {
     for name in SAMPLES {
-        let (floor, pairs) = hall_file::read(&sample(name)).unwrap();
-        let mut written = hall_file::write(&floor);
-        written.extend(pairs.iter().copied().flat_map(hall_file::write_pair));
-        assert_eq!(hall_file::read(&written), Ok((floor, pairs)), "{name}");
+        let read = hall_file::read(&sample(name)).unwrap();
+        let mut written = hall_file::write(&read.floor);
+        written.extend(read.pairs.iter().copied().flat_map(hall_file::write_pair));
+        assert_eq!(hall_file::read(&written), Ok(read), "{name}");
     }
 }
 

@@ -181,7 +181,9 @@ fn wrong_rows() {
         (3, "...........", "line 3, column 11: the row goes on after 10 cells, which the first row has (line 1)".to_string()),
         (3, "....x.....", format!("line 3, column 5: {}", unknown('x'))),
         (3, "....,.....", format!("line 3, column 5: {}", unknown(','))),
-        (3, ".\t........", "line 3, column 2: no cell is drawn as `\\t` (the name of a hall file ends in .hall)".to_string()),
+        (3, ".\t........", "line 3, column 2: a tab: draw each cell, and use spaces between sectors".to_string()),
+        (3, "SG\t.......", "line 3, column 3: a tab: draw each cell, and use spaces between sectors".to_string()),
+        (3, ".\u{1}........", "line 3, column 2: no cell is drawn as `\\u{1}` (the name of a hall file ends in .hall)".to_string()),
         (3, "....|......", "line 3, column 5: a `|` inside a sector, after 4 of its 10 cells".to_string()),
         (3, ". .........", "line 3, column 2: a space inside a sector, after 1 of its 10 cells".to_string()),
         (3, "", "line 3, column 1: an empty line inside a sector, after 2 of its 10 rows".to_string()),
@@ -263,6 +265,24 @@ fn a_drawing_that_is_written_reads_as_the_same_floor() {
     let drawn = read(write(&floor, ends).as_bytes()).unwrap();
     assert_eq!(drawn.floor.costs, floor.costs);
     assert_eq!((drawn.floor.scale, drawn.ends), (4, ends));
+}
+
+/// A floor whose ends cannot both be marked is written without marks.
+fn assert_unmarked(floor: &Floor, ends: (usize, usize)) {
+    let places = (floor.place(ends.0), floor.place(ends.1));
+    let drawn = read(write(floor, Some(places)).as_bytes()).unwrap();
+    assert_eq!((drawn.floor.costs, drawn.ends), (floor.costs.clone(), None));
+}
+
+#[test]
+fn ends_are_marked_only_on_two_cells_of_cost_1() {
+    let mut floor = floor(&with_settings(""));
+    for cost in [255, 40, 0] {
+        floor.costs[70] = cost;
+        assert_unmarked(&floor, (70, 99));
+        assert_unmarked(&floor, (99, 70));
+    }
+    assert_unmarked(&floor, (44, 44));
 }
 
 #[test]

@@ -37,6 +37,63 @@ fn the_terminal_shows_the_sample() {
     );
 }
 
+/// A hall of 10 by 6 sectors whose rows of sectors are joined at the east and west end by
+/// turns, and the card from its first cell to its last.
+fn winding() -> (Hall, Card) {
+    let open = ".".repeat(100) + "\n";
+    let walls = [
+        "#".repeat(99) + ".\n",
+        ".".to_string() + &"#".repeat(99) + "\n",
+    ];
+    let text: String = (0..6)
+        .map(|row| open.repeat(9) + if row < 5 { &walls[row % 2] } else { &open })
+        .collect();
+    let hall = Hall::build(drawing::read(text.as_bytes()).unwrap().floor);
+    let card = Card::of(&hall, 0, hall.floor.costs.len() - 1);
+    (hall, card)
+}
+
+#[test]
+fn late_steps_take_one_column_and_are_listed_by_number() {
+    let (hall, card) = winding();
+    let count = card.steps().len();
+    assert!(count > 50);
+    let text = terminal::draw(&hall, Some(&card), false);
+    let (floor, below) = text.split_once("\n\n").unwrap();
+    let signs = |wanted: char| floor.chars().filter(|sign| *sign == wanted).count();
+    assert_eq!((signs('①'), signs('⑳')), (1, 1));
+    // The last step is drawn as the goal.
+    assert_eq!((signs('◉'), signs('G')), (count - 21, 1));
+    for number in 1..=count {
+        assert!(below.contains(&format!("\n  {number:>2}  sector ")));
+    }
+}
+
+#[test]
+fn the_legend_tells_the_signs_of_a_card_that_are_drawn() {
+    let signs = [
+        "S source",
+        "G goal",
+        "① step",
+        "─ a way",
+        "◉ step after the 20th",
+    ];
+    let assert_told = |hall: &Hall, card: Option<&Card>, told: usize| {
+        let text = terminal::draw(hall, card, false);
+        for (at, sign) in signs.iter().enumerate() {
+            assert_eq!(text.contains(sign), at < told, "{sign}");
+        }
+    };
+    let ((hall, card), (long, long_card)) = (sample(), winding());
+    assert_told(&hall, None, 0);
+    let blocked = hall.floor.number((0, 7));
+    assert_told(&hall, Some(&Card::of(&hall, card.source, blocked)), 2);
+    assert_told(&hall, Some(&card), 4);
+    assert_told(&long, Some(&long_card), 5);
+    let standing = terminal::draw(&hall, Some(&Card::of(&hall, 344, 344)), false);
+    assert!(standing.contains("S source and goal\n"));
+}
+
 #[test]
 fn colours_change_no_character() {
     let (hall, card) = sample();
@@ -53,6 +110,24 @@ fn colours_change_no_character() {
         plain.push_str(text);
     }
     assert_eq!(plain, terminal::draw(&hall, Some(&card), false));
+}
+
+#[test]
+fn many_costs_are_shown_as_a_range() {
+    let assert_shown = |costs: &str, shown: &[&str], hidden: &str| {
+        let text = format!("x = 10\n{costs}\n") + &"..........\n".repeat(9);
+        let hall = Hall::build(drawing::read(text.as_bytes()).unwrap().floor);
+        let picture = svg::draw(&hall, None);
+        let shows = |text: &str| picture.contains(&format!(">{text}</text>"));
+        assert!(shown.iter().all(|text| shows(text)) && !shows(hidden));
+    };
+    assert_shown(
+        "..23456789",
+        &["cost 2", "cost 6", "cost 9"],
+        "costs from 2",
+    );
+    let range = ["costs from 2", "through 6", "up to 10"];
+    assert_shown(".x23456789", &range, "cost 6");
 }
 
 #[test]

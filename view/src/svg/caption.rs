@@ -1,22 +1,25 @@
 //! The title, the legend and the card below the floor.
 
 use super::route::{badge, end};
-use super::{CELL, FAINT, INK, LEFT, MONO, ROUTE, Sheet, WALL, WINDOW, circle, label, line, rect};
+use super::{
+    CELL, FAINT, INK, LEFT, MONO, MONO_WIDTH, ROUTE, SANS_WIDTH, STEP_WINDOW, Sheet, WALL, WINDOW,
+    bar, circle, label, line, rect,
+};
 use crate::card::Card;
-use crate::floor::{BLOCKED, UNNAMED};
+use crate::floor::{BLOCKED, Floor, UNNAMED};
+use crate::hall::Hall;
 use crate::svg::floor::shade;
 use crate::symbols;
+use crate::words::counted;
 
 /// The most costs that have an entry each.
 const MOST_COSTS: usize = 8;
-/// A character's width for its size, in the text's font and in the card's.
-const SANS_WIDTH: f64 = 0.47;
-const MONO_WIDTH: f64 = 0.602;
 
 /// What an entry of the legend shows.
 enum Sample {
     Cell(String),
     Window,
+    StepWindow,
     Way,
     Step,
     End(char),
@@ -32,12 +35,10 @@ pub fn draw(sheet: &mut Sheet, card: Option<&Card>) {
 
 fn title(sheet: &mut Sheet) {
     let floor = &sheet.hall.floor;
-    let plural =
-        |count: usize, name: &str| format!("{count} {name}{}", if count == 1 { "" } else { "s" });
     let text = format!(
         "{} by {}, trolley scale {}",
-        plural(floor.columns, "column"),
-        plural(floor.rows, "row"),
+        counted(floor.columns, "column"),
+        counted(floor.rows, "row"),
         floor.scale
     );
     sheet.add(label((LEFT, 18.0), &text, CELL * 0.72, &[("fill", &FAINT)]));
@@ -53,27 +54,40 @@ fn entries(sheet: &Sheet, card: Option<&Card>) -> Vec<(Sample, String)> {
         ));
     }
     entries.push((Sample::Cell(shade(UNNAMED)), "open at cost 1".into()));
-    let mut costs: Vec<u8> = symbols::table(&hall.floor)
-        .iter()
-        .map(|entry| entry.1)
-        .collect();
-    costs.retain(|cost| ![UNNAMED, BLOCKED].contains(cost));
-    if costs.len() > MOST_COSTS {
-        costs = vec![costs[0], costs[costs.len() / 2], costs[costs.len() - 1]];
-    }
-    entries.extend(
-        costs
-            .iter()
-            .map(|cost| (Sample::Cell(shade(*cost)), format!("cost {cost}"))),
-    );
+    entries.extend(cost_entries(&hall.floor));
     entries.push((Sample::Window, "window and its midpoints".into()));
-    if let Some(card) = card {
-        entries.push((Sample::End(symbols::SOURCE), "source".into()));
-        entries.push((Sample::End(symbols::GOAL), "goal".into()));
-        if !card.steps().is_empty() {
-            entries.push((Sample::Step, "step of the card".into()));
-            entries.push((Sample::Way, "a way to drive it".into()));
-        }
+    entries.extend(card.into_iter().flat_map(|card| card_entries(hall, card)));
+    entries
+}
+
+/// Each other cost; or, where there are many, the least, the most and one between.
+fn cost_entries(floor: &Floor) -> Vec<(Sample, String)> {
+    let table = symbols::table(floor);
+    let mut costs: Vec<u8> = table.iter().map(|entry| entry.1).collect();
+    costs.retain(|cost| ![UNNAMED, BLOCKED].contains(cost));
+    let entry = |cost: u8, text: &str| (Sample::Cell(shade(cost)), format!("{text} {cost}"));
+    if costs.len() <= MOST_COSTS {
+        return costs.iter().map(|cost| entry(*cost, "cost")).collect();
+    }
+    vec![
+        entry(costs[0], "costs from"),
+        entry(costs[costs.len() / 2], "through"),
+        entry(costs[costs.len() - 1], "up to"),
+    ]
+}
+
+/// The last step is drawn as the goal, and has no window.
+fn card_entries(hall: &Hall, card: &Card) -> Vec<(Sample, String)> {
+    let ends = card.ends(hall).into_iter();
+    let mut entries: Vec<(Sample, String)> = ends
+        .map(|end| (Sample::End(end.letter), end.name.into()))
+        .collect();
+    if card.steps().len() > 1 {
+        entries.push((Sample::Step, "step of the card".into()));
+        entries.push((Sample::StepWindow, "a step's window".into()));
+    }
+    if card.has_way() {
+        entries.push((Sample::Way, "a way to drive it".into()));
     }
     entries
 }
@@ -109,6 +123,7 @@ fn legend(sheet: &mut Sheet, card: Option<&Card>) {
 /// An entry's sample around the origin.
 fn draw_sample(sample: Sample) -> String {
     let half = CELL / 2.0;
+    let upright = [(0.0, -half), (0.0, half)];
     match sample {
         Sample::Cell(fill) => rect(
             (-half, -half),
@@ -116,14 +131,11 @@ fn draw_sample(sample: Sample) -> String {
             &[("fill", &fill), ("stroke", &FAINT), ("stroke-width", &0.8)],
         ),
         Sample::Window => {
-            let border = line(
-                &[(0.0, -half), (0.0, half)],
-                &[("stroke", &WINDOW), ("stroke-width", &3.4)],
-            );
             let points = [-half * 0.7, half * 0.7]
                 .map(|x| circle((x, 0.0), CELL * 0.2, &[("fill", &WINDOW)]));
-            border + &points.concat()
+            bar(&upright, WINDOW) + &points.concat()
         }
+        Sample::StepWindow => bar(&upright, STEP_WINDOW),
         Sample::Way => line(
             &[(-half, 0.0), (half, 0.0)],
             &[("stroke", &ROUTE), ("stroke-width", &2.6)],

@@ -1,14 +1,16 @@
 //! Cells, sector borders, windows and midpoints.
 
 use super::{
-    CELL, FAINT, INK, LEFT, SECTOR, Sheet, TOP, WALL, WINDOW, centred, circle, label, line, rect,
+    CELL, FAINT, INK, LEFT, SANS_WIDTH, SECTOR, Sheet, TOP, WALL, WINDOW, bar, centred, circle,
+    label, line, rect,
 };
-use crate::floor::{BLOCKED, LENGTH, UNNAMED};
-use crate::hall::Window;
+use crate::floor::{BLOCKED, LENGTH, Place, UNNAMED};
+use crate::hall::{Hall, Window};
 
 /// The most cells whose cost is written into them.
 const MOST_NUMBERS: usize = 600;
 
+/// What lies below a route.
 pub fn draw(sheet: &mut Sheet) {
     patterns(sheet);
     scales(sheet);
@@ -17,6 +19,12 @@ pub fn draw(sheet: &mut Sheet) {
     walls(sheet);
     borders(sheet);
     windows(sheet);
+}
+
+/// What stays readable above a route.
+pub fn draw_details(sheet: &mut Sheet) {
+    numbers(sheet);
+    midpoints(sheet);
 }
 
 /// Stripes for cells that the trolley's width blocks.
@@ -103,27 +111,41 @@ fn runs<T: PartialEq + Clone>(
     runs
 }
 
-/// Open cells of another cost than 1.
+/// The cost of an open cell that costs other than 1.
+fn other_cost(hall: &Hall, place: Place) -> Option<u8> {
+    Some(hall.base(place)).filter(|cost| ![UNNAMED, BLOCKED].contains(cost))
+}
+
 fn costs(sheet: &mut Sheet) {
     let hall = sheet.hall;
-    let other = |place| Some(hall.base(place)).filter(|cost| ![UNNAMED, BLOCKED].contains(cost));
-    for (place, length, cost) in runs(sheet, other) {
+    for (place, length, cost) in runs(sheet, |place| other_cost(hall, place)) {
         let size = (length as f64 * CELL, CELL);
         sheet.add(rect(sheet.corner(place), size, &[("fill", &shade(cost))]));
     }
+}
+
+/// Costs in their cells, each on a plate of the cell's colour that keeps a way off it.
+fn numbers(sheet: &mut Sheet) {
+    let hall = sheet.hall;
     let numbered: Vec<_> = hall
         .floor
         .places()
-        .filter_map(|place| Some((place, other(place)?)))
-        .filter(|(place, _)| hall.is_open(*place))
+        .filter(|place| hall.is_open(*place))
+        .filter_map(|place| Some((place, other_cost(hall, place)?)))
         .collect();
-    if numbered.len() <= MOST_NUMBERS {
-        for (place, cost) in numbered {
-            let (x, y) = sheet.centre(place);
-            let list: [(&str, &dyn std::fmt::Display); 2] =
-                [("text-anchor", &"middle"), ("fill", &"#7a5518")];
-            sheet.add(label((x, y + 2.6), &cost.to_string(), CELL * 0.4, &list));
-        }
+    if numbered.len() > MOST_NUMBERS {
+        return;
+    }
+    let size = CELL * 0.4;
+    for (place, cost) in numbered {
+        let (x, y) = sheet.centre(place);
+        let text = cost.to_string();
+        let (width, height) = ((text.len() as f64 + 0.3) * size * SANS_WIDTH, size * 1.1);
+        let corner = (x - width / 2.0, y - height / 2.0);
+        sheet.add(rect(corner, (width, height), &[("fill", &shade(cost))]));
+        let list: [(&str, &dyn std::fmt::Display); 2] =
+            [("text-anchor", &"middle"), ("fill", &"#7a5518")];
+        sheet.add(label((x, y + size * 0.36), &text, size, &list));
     }
 }
 
@@ -191,19 +213,22 @@ pub fn span(sheet: &Sheet, sector: (usize, usize), window: Window) -> [(f64, f64
     }
 }
 
-/// Windows as open stretches of the borders, and their midpoints.
+/// Windows as open stretches of the borders. They face each other over a border: each is
+/// drawn once.
 fn windows(sheet: &mut Sheet) {
-    let all: Vec<_> = sheet.hall.all_windows().collect();
-    // Windows face each other over a border: each is drawn once.
-    for (sector, window) in all
-        .iter()
-        .filter(|(_, window)| [1, 2].contains(&window.side))
-    {
-        let ends = span(sheet, *sector, *window);
-        sheet.add(line(&ends, &[("stroke", &"#ffffff"), ("stroke-width", &5)]));
-        sheet.add(line(&ends, &[("stroke", &WINDOW), ("stroke-width", &3.4)]));
+    let all = sheet.hall.all_windows();
+    for (sector, window) in all.filter(|(_, window)| [1, 2].contains(&window.side)) {
+        let ends = span(sheet, sector, window);
+        sheet.add(line(
+            &ends,
+            &[("stroke", &"#ffffff"), ("stroke-width", &5.6)],
+        ));
+        sheet.add(bar(&ends, WINDOW));
     }
-    for (sector, window) in all {
+}
+
+fn midpoints(sheet: &mut Sheet) {
+    for (sector, window) in sheet.hall.all_windows() {
         let at = sheet.centre(sheet.hall.place(sector, window.midpoint()));
         sheet.add(circle(at, CELL * 0.2, &[("fill", &WINDOW)]));
     }

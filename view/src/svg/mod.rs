@@ -22,11 +22,16 @@ const INK: &str = "#24292f";
 const FAINT: &str = "#6e7781";
 const WALL: &str = "#3d434b";
 const WINDOW: &str = "#00786f";
+const STEP_WINDOW: &str = "#f59f00";
 const ROUTE: &str = "#c2185b";
 const END: &str = "#1a4fa0";
 
 const SANS: &str = "Helvetica, Arial, 'Liberation Sans', sans-serif";
 const MONO: &str = "'DejaVu Sans Mono', Menlo, Consolas, 'Liberation Mono', monospace";
+/// A character's width for its size. Where the first fonts of SANS are missing, another may
+/// be wider than they are: there is room for it.
+const SANS_WIDTH: f64 = 0.56;
+const MONO_WIDTH: f64 = 0.602;
 
 /// Elements drawn one over the other, and where the text below the floor has got to.
 struct Sheet<'a> {
@@ -47,7 +52,11 @@ pub fn draw(hall: &Hall, card: Option<&Card>) -> String {
     };
     floor::draw(&mut sheet);
     if let Some(card) = card {
-        route::draw(&mut sheet, card);
+        route::draw_way(&mut sheet, card);
+    }
+    floor::draw_details(&mut sheet);
+    if let Some(card) = card {
+        route::draw_marks(&mut sheet, card);
     }
     caption::draw(&mut sheet, card);
     sheet.text()
@@ -135,6 +144,11 @@ fn line(points: &[(f64, f64)], list: &[(&str, &dyn Display)]) -> String {
         points.join(" "),
         attributes(list)
     )
+}
+
+/// A window on a border.
+fn bar(ends: &[(f64, f64)], colour: &str) -> String {
+    line(ends, &[("stroke", &colour), ("stroke-width", &4)])
 }
 
 /// Text from its left end, or around its middle.

@@ -3,24 +3,22 @@
 use std::fmt::Display;
 
 use super::floor::span;
-use super::{CELL, END, ROUTE, Sheet, centred, circle, line, rect};
-use crate::card::Card;
+use super::{CELL, END, ROUTE, STEP_WINDOW, Sheet, bar, centred, circle, line, rect};
+use crate::card::{Card, End};
 use crate::floor::Place;
-use crate::symbols;
 use crate::walk::walk;
 
-pub fn draw(sheet: &mut Sheet, card: &Card) {
-    way(sheet, card);
+/// What lies below the costs and midpoints of the floor.
+pub fn draw_way(sheet: &mut Sheet, card: &Card) {
     windows(sheet, card);
-    let numbers = [(card.goal, symbols::GOAL), (card.source, symbols::SOURCE)];
-    let on_floor = numbers
-        .into_iter()
-        .filter(|(number, _)| *number < sheet.hall.floor.costs.len());
-    let ends: Vec<(Place, char)> = on_floor
-        .map(|(number, letter)| (sheet.hall.floor.place(number), letter))
-        .collect();
-    for (place, letter) in &ends {
-        sheet.add(end(sheet.centre(*place), *letter));
+    way(sheet, card);
+}
+
+/// What lies above them.
+pub fn draw_marks(sheet: &mut Sheet, card: &Card) {
+    let ends = card.ends(sheet.hall);
+    for marked in &ends {
+        sheet.add(end(sheet.centre(marked.place), marked.letter));
     }
     steps(sheet, card, &ends);
 }
@@ -45,21 +43,21 @@ fn windows(sheet: &mut Sheet, card: &Card) {
     for step in card.steps() {
         if let Some(window) = step.window {
             let ends = span(sheet, step.sector, window);
-            sheet.add(line(&ends, &[("stroke", &ROUTE), ("stroke-width", &3.4)]));
+            sheet.add(bar(&ends, STEP_WINDOW));
         }
     }
 }
 
 /// The numbers of the steps, beside a source or goal that stands in the same cell. The last
 /// step is the goal.
-fn steps(sheet: &mut Sheet, card: &Card, ends: &[(Place, char)]) {
+fn steps(sheet: &mut Sheet, card: &Card, ends: &[End]) {
     for (number, step) in (1..).zip(card.steps()) {
         let place = sheet.hall.place(step.sector, step.goal);
         let (x, y) = sheet.centre(place);
         if step.window.is_none() {
             continue;
         }
-        if ends.iter().any(|(end, _)| *end == place) {
+        if ends.iter().any(|end| end.place == place) {
             let at = (x + CELL * 0.42, y - CELL * 0.42);
             sheet.add(badge(at, number, 0.62));
         } else {

@@ -1,0 +1,75 @@
+//! The command line.
+
+const USAGE: &str = "usage: hallview FLOOR [options]
+  FLOOR                a drawing; or, if its name ends in .hall, a hall file, with or
+                       without pairs behind it. - reads a drawing from standard input
+  --route SOURCE GOAL  the route to draw, by floor numbers or by x,y
+  --pair N             the N-th pair behind a hall file, from 1 on (otherwise the first)
+  --svg FILE           writes the picture as SVG
+  --hall FILE          writes the hall file
+  --input FILE         writes what hallroute reads: the hall file and the pair
+  --drawing FILE       writes the drawing
+  --plain              no colours in the terminal
+  --quiet              nothing in the terminal
+  -h, --help           prints this and ends";
+
+/// What is asked on the command line.
+#[derive(Default)]
+pub struct Options {
+    /// The name of the floor's file.
+    pub floor: String,
+    pub route: Option<(String, String)>,
+    pub pair: Option<usize>,
+    pub svg: Option<String>,
+    pub hall: Option<String>,
+    pub input: Option<String>,
+    pub drawing: Option<String>,
+    pub plain: bool,
+    pub quiet: bool,
+}
+
+/// What the program is to do.
+pub enum Task {
+    Help(&'static str),
+    Draw(Options),
+}
+
+/// Reads the words behind the program's name, or says what is wrong with them.
+pub fn read(mut words: impl Iterator<Item = String>) -> Result<Task, String> {
+    let mut options = Options::default();
+    while let Some(word) = words.next() {
+        let missing = || wrong(format!("behind {word} something is missing"));
+        let mut value = || words.next().ok_or_else(missing);
+        match word.as_str() {
+            "-h" | "--help" => return Ok(Task::Help(USAGE)),
+            "--route" => options.route = Some((value()?, value()?)),
+            "--pair" => options.pair = Some(pair(&value()?)?),
+            "--svg" => options.svg = Some(value()?),
+            "--hall" => options.hall = Some(value()?),
+            "--input" => options.input = Some(value()?),
+            "--drawing" => options.drawing = Some(value()?),
+            "--plain" => options.plain = true,
+            "--quiet" => options.quiet = true,
+            _ if word.starts_with('-') && word != "-" => {
+                return Err(wrong(format!("there is no option {word}")));
+            }
+            _ if !options.floor.is_empty() => {
+                return Err(wrong(format!("{word} is a second floor")));
+            }
+            _ => options.floor = word,
+        }
+    }
+    if options.floor.is_empty() {
+        return Err(wrong("no floor is named".to_string()));
+    }
+    Ok(Task::Draw(options))
+}
+
+fn pair(text: &str) -> Result<usize, String> {
+    text.parse()
+        .map_err(|_| wrong(format!("--pair takes a number, not {text}")))
+}
+
+fn wrong(what: String) -> String {
+    format!("{what}\n{USAGE}")
+}

@@ -1,0 +1,115 @@
+//! What the program says on the command line, and the status it ends with.
+
+use std::path::PathBuf;
+use std::process::Command;
+use std::{env, fs, process};
+
+/// Status, standard output and standard error.
+fn hallview(words: &[&str]) -> (Option<i32>, String, String) {
+    let output = Command::new(env!("CARGO_BIN_EXE_hallview"))
+        .args(words)
+        .output()
+        .unwrap();
+    let text = |bytes| String::from_utf8(bytes).unwrap();
+    (
+        output.status.code(),
+        text(output.stdout),
+        text(output.stderr),
+    )
+}
+
+/// The first line on standard error of a call that fails and prints nothing else.
+fn problem(words: &[&str]) -> String {
+    let (status, printed, said) = hallview(words);
+    assert_eq!((status, printed.as_str()), (Some(1), ""), "{words:?}");
+    said.lines().next().unwrap().to_string()
+}
+
+/// A file of the repository's samples.
+fn sample(name: &str) -> String {
+    format!("{}/../sample/{name}", env!("CARGO_MANIFEST_DIR"))
+}
+
+/// A file that a test writes for itself.
+fn written(name: &str, bytes: &[u8]) -> PathBuf {
+    let path = env::temp_dir().join(format!("hallview-{}-{name}", process::id()));
+    fs::write(&path, bytes).unwrap();
+    path
+}
+
+#[test]
+fn help_is_no_failure() {
+    for word in ["-h", "--help"] {
+        let (status, printed, said) = hallview(&[word]);
+        assert_eq!((status, said.as_str()), (Some(0), ""));
+        assert!(printed.starts_with("usage: hallview FLOOR"));
+    }
+}
+
+#[test]
+fn wrong_words_are_named() {
+    let cases: [(&[&str], &str); 6] = [
+        (&[], "no floor is named"),
+        (&["a.txt", "--scale", "3"], "there is no option --scale"),
+        (&["-x"], "there is no option -x"),
+        (&["a.txt", "b.txt"], "b.txt is a second floor"),
+        (&["a.txt", "--svg"], "behind --svg something is missing"),
+        (
+            &["a.txt", "--pair", "two"],
+            "--pair takes a number, not two",
+        ),
+    ];
+    for (words, expected) in cases {
+        assert_eq!(problem(words), expected);
+    }
+}
+
+#[test]
+fn routes_off_the_floor() {
+    let floor = sample("parcels.txt");
+    let range = "floor numbers are 0 to 599, x,y are 0,0 to 29,19";
+    for cell in ["600", "70000", "30,0", "0,20", "-1", "0,0,0", "dock"] {
+        let expected = format!("`{cell}` is no cell of the floor: {range}");
+        assert_eq!(problem(&[&floor, "--route", "0", cell]), expected);
+        assert_eq!(problem(&[&floor, "--route", cell, "0"]), expected);
+    }
+    let printed = |words: [&str; 3]| hallview(&[&[floor.as_str()], &words[..]].concat()).1;
+    let by_number = printed(["--route", "0", "599"]);
+    assert!(by_number.contains("\n0 599 "));
+    assert_eq!(by_number, printed(["--route", "0,0", "29,19"]));
+}
+
+#[test]
+fn pairs_that_are_not_there() {
+    let floor = sample("parcels.txt");
+    for wanted in ["0", "2"] {
+        let expected = format!("{floor} has 1 pair: there is no pair {wanted}");
+        assert_eq!(problem(&[&floor, "--pair", wanted]), expected);
+    }
+}
+
+#[test]
+fn spare_bytes_are_told() {
+    let pair = fs::read(sample("two_sectors.hall")).unwrap();
+    let whole = hallview(&[&sample("two_sectors.hall")]);
+    assert_eq!((whole.0, whole.2.as_str()), (Some(0), ""));
+    for (count, spare) in [(1, "1 spare byte"), (3, "3 spare bytes")] {
+        let path = written("spare.hall", &[pair.clone(), vec![0; count]].concat());
+        let name = path.to_str().unwrap();
+        let said = format!("{name}: cut: {spare} behind the pairs; a pair has 4 bytes\n");
+        assert_eq!(hallview(&[name]), (Some(0), whole.1.clone(), said));
+        fs::remove_file(path).unwrap();
+    }
+}
+
+#[test]
+fn a_drawing_with_the_name_of_a_hall_file() {
+    let path = written("drawing.hall", &fs::read(sample("parcels.txt")).unwrap());
+    let name = path.to_str().unwrap();
+    let expected = format!(
+        "{name}: refused 11, columns or rows are outside 1 to 10 \
+         (a name that ends in .hall is read as a hall file)"
+    );
+    assert_eq!(problem(&[name]), expected);
+    fs::remove_file(path).unwrap();
+}
