@@ -1,5 +1,5 @@
 #!/usr/bin/env python3
-"""Tries run.py with programs that do not start, crash, hang, and answer wrong or right."""
+"""Tries run.py with programs that do not start, crash, hang, and answer wrong or right, and counts what README.md says."""
 import pathlib
 import subprocess
 import sys
@@ -27,6 +27,10 @@ def held(*words):
 
 def program(text):
     return [sys.executable, "-c", text]
+
+
+def routes(cases):
+    return sum(line.startswith("route") for case in cases for line, _ in case.statements)
 
 
 class Programs(unittest.TestCase):
@@ -84,6 +88,15 @@ class Groups(unittest.TestCase):
     def test_a_group_of_which_nothing_can_be_tried(self):
         status, text = held("hallroute", "--group", "plans", "true")
         self.assertEqual((status, text), (1, "hallroute: 0 cases; none of plans can be asked in this way\n"))
+
+
+class Readme(unittest.TestCase):
+    def test_the_counts(self):
+        cases = run.all_cases()
+        by_hallroute = [case for case in cases if case.by_hallroute()]
+        text = (FOLDER / "README.md").read_text(encoding="utf-8")
+        self.assertIn(f"{len(by_hallroute)} of the {len(cases)} cases, with {routes(by_hallroute)} of the {routes(cases)} routes", text)
+        self.assertIn(f"{sum(case.by_calls() for case in cases)} cases, with every route", text)
 
 
 if __name__ == "__main__":
