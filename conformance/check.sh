@@ -1,7 +1,7 @@
 #!/usr/bin/env bash
-# Holds every router to the conformance cases, and a copy of the second reading with one tie changed: it must fail, and
-# the rule must be named. With `all`, every wrong reading must, and the cases must be those that make.py writes.
-# oracle/build.sh has built what answers.
+# Tries run.py, then holds every router to the conformance cases, and a copy of the second reading with one tie changed:
+# it must fail, and the rule must be named. With `all`, every wrong reading must, and the cases must be those that make.py
+# writes. oracle/build.sh has built what answers.
 set -euo pipefail
 cd "$(dirname "${BASH_SOURCE[0]}")"
 answer=../oracle/target/release/compare
@@ -13,6 +13,8 @@ hold() {
     python3 run.py "$@" >"$scratch/held" || { cat "$scratch/held"; exit 1; }
     tail -n 1 "$scratch/held"
 }
+
+python3 test_run.py --quiet
 
 for router in rust second proved; do
     echo "router $router"

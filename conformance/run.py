@@ -6,7 +6,8 @@
     python3 conformance/run.py show CASE              the lines of a case, as a router is asked and what it owes
 
 `--group NAME` in front of COMMAND takes the cases of one file. Each case that fails is printed with the rule of
-document 01 that it is about. The status is 0 if none fails. README.md has the forms of cases and lines.
+document 01 that it is about. The status is 0 if some were tried and none fails. README.md has the forms of cases and
+lines.
 """
 import collections
 import concurrent.futures
@@ -23,17 +24,31 @@ FOLDER = pathlib.Path(__file__).resolve().parent / "cases"
 SECONDS = 60
 
 
+def groups():
+    return sorted(path.stem for path in FOLDER.glob("*.txt"))
+
+
 def all_cases(group=None):
-    paths = sorted(FOLDER.glob("*.txt"))
-    return [case for path in paths if group in (None, path.stem) for case in form.read(path)]
+    return [case for name in groups() if group in (None, name) for case in form.read(FOLDER / f"{name}.txt")]
 
 
 def run(command, data):
-    """What a program prints; nothing if it hangs."""
+    """What a program prints, and how it ended unless it ended well."""
     try:
-        return subprocess.run(command, input=data, stdout=subprocess.PIPE, stderr=subprocess.DEVNULL, timeout=SECONDS).stdout
+        ended = subprocess.run(command, input=data, capture_output=True, timeout=SECONDS)
     except subprocess.TimeoutExpired:
-        return b""
+        return "", f"no answer in {SECONDS} seconds"
+    except OSError as error:
+        sys.exit(f"{' '.join(map(str, command))} cannot be started: {error.strerror}")
+    return ended.stdout.decode(errors="replace"), bad_end(ended.returncode, ended.stderr.decode(errors="replace"))
+
+
+def bad_end(status, errors):
+    """What is told of a status other than 0, with the last line that was written to standard error."""
+    if status == 0:
+        return ""
+    how = f"the program ended with status {status}" if status > 0 else f"the program was ended by signal {-status}"
+    return ": ".join([how, *errors.strip().splitlines()[-1:]])
 
 
 def calls_of(case):
@@ -58,10 +73,10 @@ def fails_calls(case, command):
     """The first call that is answered otherwise: what was asked, owed and given."""
     calls = calls_of(case)
     asked = "".join(line + "\n" for _, line, _, _ in calls)
-    answers = run(command, asked.encode()).decode(errors="replace").splitlines()
-    answers += ["nothing"] * (len(calls) - len(answers))
-    for (statement, _, state, owed), answer in zip(calls, answers):
-        given = form.told(state, statement, answer)
+    printed, end = run(command, asked.encode())
+    answers = printed.splitlines()[:len(calls)]
+    for (statement, _, state, owed), answer in itertools.zip_longest(calls, answers):
+        given = [end or "no answer"] if answer is None else form.told(state, statement, answer)
         if given != owed:
             return statement, owed, given
     return None
@@ -70,13 +85,15 @@ def fails_calls(case, command):
 def fails_hallroute(case, command):
     """The first line that is printed otherwise."""
     data, owed = form.program_input(case)
-    given = run(command, data).decode(errors="replace")
+    printed, end = run(command, data)
+    # A program that ends badly without a word has not answered, even if no line is owed.
+    given = printed or end
     if given == owed:
         return None
     pairs = itertools.zip_longest(owed.split("\n"), given.split("\n"), fillvalue="no line end")
     at, (owed, given) = next((at, pair) for at, pair in enumerate(pairs) if pair[0] != pair[1])
     asked = [line for line, _ in case.statements if line.split()[0] in ("route", "input")]
-    return asked[min(at, len(asked) - 1)], [owed], [given]
+    return asked[min(at, len(asked) - 1)], [owed], [given or end or "no further line"]
 
 
 def print_failure(case, failure):
@@ -94,6 +111,9 @@ def print_failure(case, failure):
 
 def hold(interface, command, group):
     wanted = [case for case in all_cases(group) if (case.by_calls() if interface == "calls" else case.by_hallroute())]
+    if not wanted:
+        print(f"{interface}: 0 cases; none of {group or 'the groups'} can be asked in this way")
+        return 1
     fails = fails_calls if interface == "calls" else fails_hallroute
     with concurrent.futures.ThreadPoolExecutor(os.cpu_count() or 1) as pool:
         failures = list(pool.map(lambda case: fails(case, command), wanted))
@@ -109,7 +129,7 @@ def hold(interface, command, group):
     for rule in rules:
         print(f"broken rule: {rule}")
     print(f"{interface}: {len(wanted)} cases, {len(failed)} fail")
-    return 1 if failed or not wanted else 0
+    return 1 if failed else 0
 
 
 def show(name):
@@ -127,12 +147,14 @@ def show(name):
 
 
 def main():
-    words = sys.argv[1:]
-    group = None
+    words, group = sys.argv[1:], None
     if "--group" in words[:2]:
         at = words.index("--group")
-        group = words[at + 1]
+        group = next(iter(words[at + 1:]), None)
         del words[at:at + 2]
+    if group not in (None, *groups()):
+        print(f"no group {group}; the groups are {', '.join(groups())}")
+        return 2
     if len(words) >= 2 and words[0] in ("hallroute", "calls"):
         return hold(words[0], words[1:], group)
     if len(words) == 2 and words[0] == "show":

@@ -67,8 +67,8 @@ def answers_of(program, lines):
     answers = []
     while len(answers) < len(lines):
         rest = lines[len(answers):]
-        given = run.run([program], "".join(line + "\n" for line in rest).encode()).decode().splitlines()
-        answers += given[:len(rest)]
+        printed, _ = run.run([program], "".join(line + "\n" for line in rest).encode())
+        answers += printed.splitlines()[:len(rest)]
         if len(answers) < len(lines):
             answers.append("")
     return answers
