@@ -2,17 +2,15 @@
 use Prim.Native.Nat.{ℕ, _+_, _*_, _≤_, _<_}
 use native.Mathlib.Omega.{arith}
 use mathlib.Core.Path.{_≡_, refl, sym, ap, ap₂, _∙_}
-use mathlib.Core.Logic.{_⊎_, inl}
 use mathlib.Core.Bool.{Bool, true, false, _&&_, true≢false}
 use mathlib.Core.List.{List, [], _∷_, map}
 use lib.Dec.{ltb}
 use lib.ListN.{length, getD}
 use borrow.Author.Tests.{ltb-true, lt-ltb}
-use Rattle.laws.specs.Fold.{pick}
 use Rattle.laws.specs.Search.{both, passing-is, passing-has}
 use Rattle.laws.specs.Graph.{Graph}
 use Rattle.laws.specs.Keys.{Journey, arrived, onward, Before, cheaper, shorter, earlier, few-edges}
-use Rattle.laws.specs.Choice.{In, here, in-cons, map-is, map-has, Best, nothing, best, winner, winner-in, pairs-is, pairs-has}
+use Rattle.laws.specs.Choice.{In, map-is, map-has, Best, nothing, best, winner, winner-in, pairs-is, pairs-has}
 use Rattle.laws.specs.Floor.{Inside}
 use Rattle.laws.specs.Detour.{Path, at, along, Lengths, Pair, leg-of, run-of, Chosen, Promise, promise, Winning, chosen}
 use Rattle.model.specs.declared.RouteStep.{RouteStep}
@@ -25,6 +23,7 @@ use Rattle.model.specs.LeastPath.{nodeRank, unlinked, keysTo, costOfKey, leastP
 use Rattle.model.specs.LeastPathFirst.{edgeCost, portal-keyed, keys-settled, head-portal, linked, least-path}
 use Rattle.model.specs.Route.{End, starts, ends, endOf, linkedPair, runOf, routePairs, chosenPair, stepsOf, route, none, throughPair, throughPortals, routeOf}
 use Rattle.model.specs.Route as choice
+use Rattle.model.specs.RouteChosen.{link-is, link-has}
 use Rattle.audit.specs.Crossings.{floorOf}
 use Rattle.audit.specs.SectorMoves.{fewest, inside-joined}
 use Rattle.audit.specs.PortalEdges.{Arc, portal-on, mid-sector}
@@ -135,21 +134,6 @@ module _ (h : Hall) (fresh : Fresh h) where
 
   abbrev candidates : ℕ → ℕ → List choice.Pair
   candidates source goal = routePairs h g source goal
-
-  -- a linked pair, and back
-  link-is : (p : ℕ) (e : End) {z : choice.Pair} → In z (linkedPair p e) → (z ≡ record { start = p; end = e }) × (getD (e .keys) p 0 < unlinked)
-  unfolding linkedPair
-  link-is p e {z} = go (ltb (getD (e .keys) p 0) unlinked) refl
-    where
-      go : (t : Bool) → ltb (getD (e .keys) p 0) unlinked ≡ t → In z (pick t (record { start = p; end = e } ∷ []) []) → (z ≡ record { start = p; end = e }) × (getD (e .keys) p 0 < unlinked)
-      go true q i = one (in-cons i)
-        where
-          one : (z ≡ record { start = p; end = e }) ⊎ In z [] → (z ≡ record { start = p; end = e }) × (getD (e .keys) p 0 < unlinked)
-          one (inl d) = (d, ltb-true (getD (e .keys) p 0) unlinked q)
-
-  link-has : (p : ℕ) (e : End) → getD (e .keys) p 0 < unlinked → In (record { start = p; end = e }) (linkedPair p e)
-  unfolding linkedPair
-  link-has p e l = rw (lt-ltb (getD (e .keys) p 0) unlinked l) here
 
   -- the lists of starts and ends hold what they say
   start-is : (source p : ℕ) → In p (starts h source) → (isPortal h p ≡ true) × (joined (h .scaled) source (midCell h p) ≡ true)

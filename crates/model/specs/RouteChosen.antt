@@ -1,12 +1,18 @@
 -- The pair that `chosenPair` gives: it is among the pairs, every earlier one has a greater run, no later one a smaller; and there is none exactly where no pair is.
-use Prim.Native.Nat.{ℕ}
-use mathlib.Core.Path.{_≡_}
-use mathlib.Core.Logic.{_↔_}
-use mathlib.Core.List.{[]}
+use Prim.Native.Nat.{ℕ, _<_}
+use mathlib.Core.Path.{_≡_, refl}
+use mathlib.Core.Logic.{_↔_, _⊎_, inl}
+use mathlib.Core.Bool.{Bool, true}
+use mathlib.Core.List.{[], _∷_}
+use lib.Dec.{ltb}
+use lib.ListN.{getD}
+use borrow.Author.Tests.{ltb-true, lt-ltb}
+use Rattle.laws.specs.Fold.{pick}
 use Rattle.laws.specs.Graph.{Graph}
-use Rattle.laws.specs.Choice.{nothing, best, Leads, winner-first, winner-none}
+use Rattle.laws.specs.Choice.{In, here, in-cons, nothing, best, Leads, winner-first, winner-none}
 use Rattle.model.specs.Halls.{Hall}
-use Rattle.model.specs.Route.{Pair, runOf, routePairs, chosenPair}
+use Rattle.model.specs.LeastPath.{unlinked}
+use Rattle.model.specs.Route.{End, Pair, linkedPair, runOf, routePairs, chosenPair}
 
 pub chosen-leads : (h : Hall) (g : Graph) (source goal : ℕ) {z : Pair} → chosenPair h g source goal ≡ best z → Leads runOf z (routePairs h g source goal)
 unfolding chosenPair
@@ -15,3 +21,18 @@ chosen-leads h g source goal e = winner-first runOf e
 pub chosen-none : (h : Hall) (g : Graph) (source goal : ℕ) → (chosenPair h g source goal ≡ nothing) ↔ (routePairs h g source goal ≡ [])
 unfolding chosenPair
 chosen-none h g source goal = winner-none runOf (routePairs h g source goal)
+
+-- a pair that a portal path joins, and back
+pub link-is : (p : ℕ) (e : End) {z : Pair} → In z (linkedPair p e) → (z ≡ record { start = p; end = e }) × (getD (e .keys) p 0 < unlinked)
+unfolding linkedPair
+link-is p e {z} = go (ltb (getD (e .keys) p 0) unlinked) refl
+  where
+    go : (t : Bool) → ltb (getD (e .keys) p 0) unlinked ≡ t → In z (pick t (record { start = p; end = e } ∷ []) []) → (z ≡ record { start = p; end = e }) × (getD (e .keys) p 0 < unlinked)
+    go true q i = one (in-cons i)
+      where
+        one : (z ≡ record { start = p; end = e }) ⊎ In z [] → (z ≡ record { start = p; end = e }) × (getD (e .keys) p 0 < unlinked)
+        one (inl d) = (d, ltb-true (getD (e .keys) p 0) unlinked q)
+
+pub link-has : (p : ℕ) (e : End) → getD (e .keys) p 0 < unlinked → In (record { start = p; end = e }) (linkedPair p e)
+unfolding linkedPair
+link-has p e l = rw (lt-ltb (getD (e .keys) p 0) unlinked l) here

@@ -2,9 +2,8 @@
 use Prim.Native.Nat.{ℕ, _*_, _≤_, _<_}
 use native.Mathlib.Omega.{arith}
 use mathlib.Core.Path.{_≡_, refl}
-use mathlib.Core.Logic.{_⊎_, inl}
 use mathlib.Core.Bool.{Bool, true, false, _&&_}
-use mathlib.Core.List.{List, [], _∷_, map}
+use mathlib.Core.List.{List, map}
 use lib.Dec.{ltb}
 use lib.ListN.{length, getD}
 use borrow.Author.Tests.{ltb-true}
@@ -12,7 +11,7 @@ use Rattle.laws.specs.Fold.{pick}
 use Rattle.laws.specs.Search.{both, passing-is}
 use Rattle.laws.specs.Graph.{Graph}
 use Rattle.laws.specs.Keys.{few-edges}
-use Rattle.laws.specs.Choice.{In, in-cons, map-is, Best, nothing, best, winner-in, pairs-is}
+use Rattle.laws.specs.Choice.{In, map-is, Best, nothing, best, winner-in, pairs-is}
 use Rattle.model.specs.Sectors.{sectors, sectorOf}
 use Rattle.model.specs.Moves.{joined}
 use Rattle.model.specs.Windows.{windowCount}
@@ -20,23 +19,13 @@ use Rattle.model.specs.Halls.{Hall}
 use Rattle.model.specs.Portals.{portalSector, portalWindow, portalMark, isPortal, midCell, portalGraph}
 use Rattle.model.specs.LeastPath.{nodeRank, unlinked, keysTo, leastPath}
 use Rattle.model.specs.LeastPathFirst.{Fits, portal-keyed, keys-settled}
-use Rattle.model.specs.Route.{Pair, End, starts, ends, endOf, linkedPair, runOf, routePairs, chosenPair, stepsOf, throughPair, throughPortals, oneStep, routeOf}
+use Rattle.model.specs.Route.{Pair, starts, ends, endOf, linkedPair, runOf, routePairs, chosenPair, stepsOf, throughPair, throughPortals, oneStep, routeOf}
+use Rattle.model.specs.RouteChosen.{link-is}
 use Rattle.model.specs.Store.{decode}
 use Rattle.model.specs.Calls.{stepList}
 use Rattle.store.specs.Checks.{Checked}
 use Rattle.graph.specs.EdgeTable.{checked-fits}
 use Rattle.route.specs.Stepping.{length-steps}
-
--- a pair that a portal path joins
-link-is : (p : ℕ) (e : End) {z : Pair} → In z (linkedPair p e) → (z ≡ record { start = p; end = e }) × (getD (e .keys) p 0 < unlinked)
-unfolding linkedPair
-link-is p e {z} = go (ltb (getD (e .keys) p 0) unlinked) refl
-  where
-    go : (t : Bool) → ltb (getD (e .keys) p 0) unlinked ≡ t → In z (pick t (record { start = p; end = e } ∷ []) []) → (z ≡ record { start = p; end = e }) × (getD (e .keys) p 0 < unlinked)
-    go true q i = one (in-cons i)
-      where
-        one : (z ≡ record { start = p; end = e }) ⊎ In z [] → (z ≡ record { start = p; end = e }) × (getD (e .keys) p 0 < unlinked)
-        one (inl d) = (d, ltb-true (getD (e .keys) p 0) unlinked q)
 
 module _ (h : Hall) (fits : Fits h) where
   abbrev g : Graph
