@@ -11,6 +11,8 @@ OLD = 0xA5
 # Lent bytes behind the size of a store: they must stay.
 SPARE = 5
 MOST_STEPS = 1001
+# What a hall file and pairs can say; what build leaves in the store shows only in the routes.
+IN_A_FILE = re.compile(r"(hall|blocked|cost) .*|build|built|route \d+ \d+")
 
 
 class Case:
@@ -24,8 +26,7 @@ class Case:
     def by_hallroute(self):
         """Whether a program like hallroute can be asked."""
         words = {line.split()[0] for line, _ in self.statements}
-        plain = all(len(line.split()) == 3 for line, _ in self.statements if line.startswith("route"))
-        return "input" in words or ("route" in words and plain and words <= {"hall", "blocked", "cost", "built", "route"})
+        return "input" in words or "route" in words and all(IN_A_FILE.fullmatch(line) for line, _ in self.statements)
 
     def by_calls(self):
         return not any(line.startswith("input") for line, _ in self.statements)

@@ -1,5 +1,6 @@
 #!/usr/bin/env python3
-"""Tries run.py with programs that do not start, crash, hang, and answer wrong or right, and counts what README.md says."""
+"""Tries run.py with programs that do not start, crash, hang, and answer wrong or right; holds the cases to README.md's
+counts, and to hallroute's telling every wrong reading of scaling."""
 import pathlib
 import subprocess
 import sys
@@ -88,6 +89,13 @@ class Groups(unittest.TestCase):
     def test_a_group_of_which_nothing_can_be_tried(self):
         status, text = held("hallroute", "--group", "plans", "true")
         self.assertEqual((status, text), (1, "hallroute: 0 cases; none of plans can be asked in this way\n"))
+
+
+class Scaling(unittest.TestCase):
+    def test_each_wrong_reading_can_be_told_by_hallroute(self):
+        cases = [case for case in run.all_cases("scaling") if case.against]
+        by_hallroute = {case.against for case in cases if case.by_hallroute()}
+        self.assertEqual(by_hallroute, {case.against for case in cases})
 
 
 class Readme(unittest.TestCase):

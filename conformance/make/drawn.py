@@ -1,9 +1,10 @@
 """What is drawn for each group of cases, and how many are kept."""
 from floors import Draw, Hall, change, draw_hall, route
 
-# Cases that are kept for each wrong reading.
+# Cases that are kept for each wrong reading; the last number holds for ROUTE_POOLS.
 KEPT = {"ties": 8, "edges": 8}
 USUALLY_KEPT = 4
+ROUTES_KEPT = 2
 
 ABOUT = {
     "ties": "Which of several portal paths of equal cost is taken.",
@@ -63,6 +64,13 @@ def scaling():
     return pool(103, 2500, statements)
 
 
+def scaled_routes():
+    def statements(draw):
+        hall = draw_hall(draw, [1, 2, 2, 3], [2, 3, 4, 5, 6, 7, 8, 9], ("dots", "density"))
+        return [*hall.statements("build"), route(draw, hall)]
+    return pool(111, 6000, statements)
+
+
 def changes():
     def statements(draw):
         hall = draw_hall(draw, [1, 2, 3], [2, 2, 3, 4], ("dots", "dots", "density"))
@@ -120,3 +128,5 @@ POOLS = {
     "stale_borders": stale_borders,
     "lent_stores": lent_stores,
 }
+# Of these, only cases are kept that a program like hallroute, which shows routes alone, answers otherwise.
+ROUTE_POOLS = {"scaling": scaled_routes}

@@ -2,11 +2,13 @@
 """Makes the conformance cases, ../cases/*.txt, from seeds.
 
 Owed answers are those of the Rust of docs/src (compare answer --router rust). Drawn cases are kept because a wrong
-reading of document 01 (wrong/*.edit) answers them otherwise: for each wrong reading the shortest of those drawn.
-Listed cases come from listed.py. The status is not 0 if a wrong reading passes all cases of its group.
+reading of document 01 (wrong/*.edit) answers them otherwise: for each wrong reading the shortest of those drawn, and for
+one of scaling also the shortest whose routes a program like hallroute prints otherwise. Listed cases come from
+listed.py. The status is not 0 if a wrong reading passes all cases of its group.
 
     python3 conformance/make/make.py [FOLDER]     writes into FOLDER, or over ../cases
 """
+import itertools
 import pathlib
 import subprocess
 import sys
@@ -90,18 +92,35 @@ def telling(edit, pool):
     return sorted(found, key=lambda case: len(case.text()))
 
 
+def telling_by_route(edit, pool):
+    """The same, but only cases whose lines a program like hallroute prints otherwise."""
+    # A call of route is lent the store that is owed: of the calls only the first, build, can tell a wrong scaling.
+    built = [(case, pairs[:1]) for case, pairs in pool]
+    program = wrong.build(edit) / "hallroute"
+    return (case for case in telling(edit, built) if run.fails_hallroute(case, [program]))
+
+
 def drawn_cases(group, edits, rust):
     """For each wrong reading of a group, the shortest of the drawn cases that tell it."""
-    pool = [answered(group, "", statements, rust) for statements in drawn.POOLS[group]()]
-    kept, texts = [], set()
+    cases = []
+    if group in drawn.POOLS:
+        cases += kept(drawn.POOLS[group](), telling, drawn.KEPT.get(group, drawn.USUALLY_KEPT), group, edits, rust)
+    if group in drawn.ROUTE_POOLS:
+        cases += kept(drawn.ROUTE_POOLS[group](), telling_by_route, drawn.ROUTES_KEPT, group, edits, rust)
+    return cases
+
+
+def kept(drawn_statements, tells, most, group, edits, rust):
+    """For each wrong reading, the first cases of a pool that tell it and are kept for no other."""
+    pool = [answered(group, "", statements, rust) for statements in drawn_statements]
+    cases, texts = [], set()
     for edit in edits:
-        fresh = [case for case in telling(edit, pool) if case.text() not in texts]
-        for case in fresh[:drawn.KEPT.get(group, drawn.USUALLY_KEPT)]:
+        fresh = (case for case in tells(edit, pool) if case.text() not in texts)
+        for case in itertools.islice(fresh, most):
             texts.add(case.text())
-            kept.append((case, edit))
-    for case, edit in kept:
-        case.rule, case.against = edit.rule, edit.what
-    return [case for case, _ in kept]
+            case.rule, case.against = edit.rule, edit.what
+            cases.append(case)
+    return cases
 
 
 def listed_cases(group, rust):
@@ -138,8 +157,7 @@ def main():
     for group in drawn.ABOUT:
         edits = [edit for edit in wrong.all_edits() if edit.group == group]
         cases = listed_cases(group, rust) if group in listed.GROUPS else []
-        if group in drawn.POOLS:
-            cases += drawn_cases(group, edits, rust)
+        cases += drawn_cases(group, edits, rust)
         counts = {edit.name: caught(edit, cases) for edit in edits}
         missed += [name for name, count in counts.items() if not count]
         write(group, cases, folder)
