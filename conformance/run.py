@@ -147,6 +147,8 @@ def show(name):
 
 
 def main():
+    # Rules have signs, as ×, that not every output can print.
+    sys.stdout.reconfigure(errors="replace")
     words, group = sys.argv[1:], None
     if "--group" in words[:2]:
         at = words.index("--group")

@@ -1,6 +1,7 @@
 #!/usr/bin/env python3
 """Tries run.py with programs that do not start, crash, hang, and answer wrong or right; holds the cases to README.md's
 counts, and to hallroute's telling every wrong reading of scaling."""
+import os
 import pathlib
 import subprocess
 import sys
@@ -20,9 +21,10 @@ print(owed[sys.stdin.buffer.read()], end="")
 """
 
 
-def held(*words):
+def held(*words, encoding="utf-8"):
     """Status and text of a run of run.py."""
-    ended = subprocess.run([sys.executable, FOLDER / "run.py", *words], capture_output=True, text=True, encoding="utf-8")
+    ended = subprocess.run([sys.executable, FOLDER / "run.py", *words], capture_output=True, text=True, encoding=encoding,
+                           env=os.environ | {"PYTHONIOENCODING": encoding})
     return ended.returncode, ended.stdout + ended.stderr
 
 
@@ -39,6 +41,11 @@ class Programs(unittest.TestCase):
         status, text = held("hallroute", "--group", "refusals", *program(RIGHT))
         self.assertEqual(status, 0)
         self.assertTrue(text.endswith(" cases, 0 fail\n"), text)
+
+    def test_a_plain_output_is_enough(self):
+        status, text = held("calls", "--group", "files", *program("print('no')"), encoding="ascii")
+        self.assertEqual(status, 1)
+        self.assertIn("14 length not 5 + 3 ? count", text)
 
     def test_a_wrong_answer_names_its_rule(self):
         status, text = held("hallroute", "--group", "limits", *program("print('0 9999 none')"))
