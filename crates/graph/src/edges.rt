@@ -5,7 +5,7 @@ ghost use lib.ListN.{length, getD};
 ghost use Rattle.model.specs.Sectors.{sectors, costsOf};
 ghost use Rattle.model.specs.Portals.{outerEdge};
 ghost use Rattle.model.specs.Store.{decode};
-ghost use Rattle.portal.specs.Levels.{openWords, movesIn};
+ghost use Rattle.moves.specs.Levels.{openWords, movesIn};
 ghost use Rattle.graph.specs.EdgeTable.{Opened, Filled, Row, edgeTable};
 ghost use Rattle.graph.specs.Near.{sectorMids};
 ghost use Rattle.graph.specs.Weights.{edgeBy};

@@ -6,7 +6,7 @@ ghost use Rattle.laws.specs.Fold.{pick};
 ghost use Rattle.model.specs.Sectors.{sectors, cells, sectorOf, placeOf, costsOf};
 ghost use Rattle.model.specs.Moves.{moves, movesTo, joined, apart};
 ghost use Rattle.model.specs.Store.{decode};
-ghost use Rattle.portal.specs.Levels.{openWords, Spread, movesIn};
+ghost use Rattle.moves.specs.Levels.{openWords, Spread, movesIn};
 ghost use Rattle.graph.specs.EdgeTable.{Opened};
 ghost use Rattle.graph.specs.Near.{midOf, sectorMids, nearBy, portalMoves};
 use crate::portals::is_portal;
@@ -15,9 +15,9 @@ use fields::numbers::byte;
 use fields::numbers::wide;
 use fields::sectors::cells;
 use model::Measures;
-use portal::moves::moves_at;
-use portal::moves::open_words;
-use portal::moves::spread;
+use moves::open_cells::open_words;
+use moves::spread::moves_at;
+use moves::spread::spread;
 
 // The index of a portal's midpoint, or 100 where the number is no portal's.
 fn mid_of(st: &[u8], m: Measures, p: usize) -> u8

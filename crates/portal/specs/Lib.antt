@@ -2,4 +2,3 @@ pub mod Border
 pub mod Runs
 pub mod Marks
 pub mod Listing
-pub mod Levels

@@ -1,6 +1,5 @@
-// Borders of a sector, marks of its sides, windows of a mark, and moves inside a sector: document 01, items 7 and 8.
+// Borders of a sector, marks of its sides, and windows of a mark: document 01, item 8.
 pub mod border;
 pub mod listing;
 pub mod marks;
-pub mod moves;
 pub mod runs;

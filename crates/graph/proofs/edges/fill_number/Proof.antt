@@ -7,7 +7,7 @@ use denote.Ref.{now}
 use Rattle.model.specs.Sectors.{sectors, costsOf}
 use Rattle.model.specs.Halls.{Hall}
 use Rattle.model.specs.Store.{decode}
-use Rattle.portal.specs.Levels.{openWords}
+use Rattle.moves.specs.Levels.{openWords}
 use Rattle.graph.specs.Reading.{few-of, fits-of, measures-are}
 use Rattle.graph.specs.Weights.{mids-long, own-none, own-some, moves-own, weight-none, weight-by}
 use borrow.Author.Needs.{needs}

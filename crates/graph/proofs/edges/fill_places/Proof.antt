@@ -2,7 +2,7 @@
 use native.Mathlib.Omega.{arith}
 use Prim.Native.Nat.{_-_, _%_}
 use lib.ListN.{getD}
-use Rattle.portal.specs.Levels.{movesIn}
+use Rattle.moves.specs.Levels.{movesIn}
 use Rattle.graph.specs.EdgeTable.{Row, row-none, row-more, row-all}
 use Rattle.graph.specs.Weights.{edgeBy}
 use borrow.Author.Needs.{needs}

@@ -7,7 +7,7 @@ use denote.Ref.{now}
 use Rattle.laws.specs.Table.{tabled-at}
 use Rattle.model.specs.Sectors.{costsOf}
 use Rattle.model.specs.Store.{decode}
-use Rattle.portal.specs.Levels.{openWords}
+use Rattle.moves.specs.Levels.{openWords}
 use Rattle.graph.specs.EdgeTable.{Filled}
 use Rattle.graph.specs.Near.{sectorMids}
 use Rattle.graph.specs.Reading.{few-of}

@@ -8,7 +8,7 @@ use denote.Ref.{now}
 use Rattle.model.specs.Moves.{moves}
 use Rattle.model.specs.Sectors.{sectorOf, placeOf, costsOf}
 use Rattle.model.specs.Store.{decode}
-use Rattle.portal.specs.Levels.{openWords}
+use Rattle.moves.specs.Levels.{openWords}
 use Rattle.graph.specs.Reading.{few-of}
 use Rattle.graph.specs.Weights.{costs-part}
 use borrow.Author.Needs.{needs}

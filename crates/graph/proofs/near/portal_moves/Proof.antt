@@ -4,7 +4,7 @@ use native.Mathlib.Omega.{arith}
 use mathlib.Core.Path.{refl}
 use lib.ListN.{getD}
 use Rattle.laws.specs.Table.{Tabled, tabling}
-use Rattle.portal.specs.Levels.{movesIn}
+use Rattle.moves.specs.Levels.{movesIn}
 use Rattle.graph.specs.Reading.{few-of}
 use Rattle.graph.specs.Near.{nearBy, near-list}
 use borrow.Author.Needs.{needs}

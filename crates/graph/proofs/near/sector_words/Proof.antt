@@ -2,7 +2,7 @@
 use Prim.Native.Nat.{_+_, _-_, _*_}
 use native.Mathlib.Omega.{arith}
 use mathlib.Core.Path.{ap, _∙_}
-use Rattle.portal.specs.Levels.{openWords}
+use Rattle.moves.specs.Levels.{openWords}
 use Rattle.graph.specs.Reading.{few-of}
 use Rattle.graph.specs.Weights.{costs-part}
 use borrow.Author.Needs.{needs}

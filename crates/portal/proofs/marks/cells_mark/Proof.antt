@@ -1,6 +1,6 @@
 -- `marks::cells_mark` meets its contract: the mark holds the places from i on.
 use borrow.Author.Needs.{needs}
-use Rattle.portal.proofs.Places.{Marked, marking}
+use Rattle.fields.specs.Bits.{Marked, marking}
 use Rattle.portal.specs.Marks.{openBetween}
 use Rattle.portal.proofs.marks.cells_mark.Statement.{statement}
 use Rattle.portal.proofs.marks.cells_mark.Tie as tie
