@@ -1,6 +1,6 @@
 -- At scale 1 a change of a built hall gives the build of the altered base costs, and 22 cannot occur there.
 use Prim.Native.Nat.{ℕ, zero, suc, _+_, _-_, _*_, _/_, _%_, _≤_, _<_}
-use native.Mathlib.Nat.{div-add-mod', mod-lt, div-lt-iff-lt-mul}
+use native.Mathlib.Nat.{div-add-mod', mod-lt, add-div-right, div-lt-iff-lt-mul}
 use native.Mathlib.Omega.{arith}
 use mathlib.Core.Path.{_≡_, refl, sym, ap, ap₂, _∙_}
 use mathlib.Core.Logic.{_≢_}
@@ -27,7 +27,8 @@ use Rattle.model.specs.Change.{nearby, isThere, isNearby, remarked, changed, ex
 use Rattle.model.specs.ScaleOne.{floor-one, rescaled-one}
 use Rattle.model.specs.ScaleLengths.{length-floor}
 use Rattle.model.specs.Calls.{built}
-use Rattle.audit.specs.Borders.{border-low, sector-cell, has-rows, column-next, lies-beyond}
+use Rattle.model.specs.CellSides.{border-low}
+use Rattle.model.specs.SectorSides.{sector-cell, has-rows, lies-beyond}
 use Rattle.audit.specs.Gates.{Fresh, far-mark}
 
 -- ---- the sectors around a change
@@ -72,7 +73,7 @@ module _ (m : Measures) (t : ℕ) (on : t < sectors m) where
       more =
           let room = ltb-true (t + m .rows) (sectors m) h in
           let c = div-lt-iff-lt-mul (has-rows m t on) .1 room in
-          omega (arith, c, column-next (m .rows) (has-rows m t on) t .0)
+          omega (arith, c, add-div-right t (has-rows m t on))
   near-side South h =
       let room = ltb-true (rowOf m t + 1) (m .rows) h in
       let here : columnOf m t + 1 - 1 ≡ columnOf m t = omega arith in

@@ -21,14 +21,17 @@ use Rattle.model.specs.Cells.{sideNumber, sideAt, opposite}
 use Rattle.model.specs.Costs.{openAt}
 use Rattle.model.specs.Sectors.{sectors, cells, floorNumber, beyond, hasBeyond}
 use Rattle.model.specs.Moves.{movesTo}
-use Rattle.model.specs.MovesFewest.{side-number, side-low, Joined, is-joined}
+use Rattle.model.specs.Sides.{side-number, side-low, opposite-is}
+use Rattle.model.specs.CellSides.{border-low}
+use Rattle.model.specs.SectorSides.{sector-cell, Beyond, lies-beyond}
+use Rattle.model.specs.MovesFewest.{Joined, is-joined}
 use Rattle.model.specs.Windows.{border, openPlace, bits, markOf, marksOf, isOpen, windowCount, firstPlace, lastPlace, crossing}
 use Rattle.model.specs.WindowRuns.{Run, window-run, windowOn, few-windows, open-lies, near, crossing-in, bits-small, bits-open}
 use Rattle.model.specs.Halls.{Hall, markAt}
 use Rattle.model.specs.Portals.{portalSector, portalSide, portalWindow, portalMark, isPortal, midpoint, midCell, facing}
 use Rattle.model.specs.LeastPathFirst.{Fits}
 use Rattle.model.specs.Computing.{computing}
-use Rattle.audit.specs.Borders.{border-low, sector-cell, opposite-twice, share-back, share-along, Beyond, lies-beyond}
+use Rattle.audit.specs.Borders.{share-back, share-along, share-border}
 use Rattle.audit.specs.Crossings.{floorOf, cross-leaving}
 use Rattle.audit.specs.SectorMoves.{inside-joined, joined-inside}
 use Rattle.audit.specs.PortalEdges.{Arc, mid-sector, moves-between, outer-arc, inner-arc, EdgeIs, outer, inner, arc-edge}
@@ -115,7 +118,7 @@ module _ (m : Measures) (costs : List ℕ) where
       b = lies-beyond m s on k there
 
       places : (i : ℕ) → openPlace m costs (beyond m s k) (opposite k) i ≡ openPlace m costs s k i
-      places i = rw (b .back, opposite-twice k) (and-swap (openAt costs (floorNumber (beyond m s k) (border (opposite k) i))) (openAt costs (floorNumber s (border k i))))
+      places i = rw (b .back, opposite-is k .twice) (and-swap (openAt costs (floorNumber (beyond m s k) (border (opposite k) i))) (openAt costs (floorNumber s (border k i))))
 
   -- a side without neighbour has no window
   pub mark-has : (s : ℕ) (k : Side) (j : ℕ) → j < windowCount (markOf m costs s k) → hasBeyond m s k ≡ true
@@ -209,7 +212,7 @@ module _ (h : Hall) (fresh : Fresh h) where
     over-border i l o = record {
       leaves = open-both i l o .0;
       enters = open-both i l o .1;
-      side = beyond-is .share i l;
+      side = share-border (h .measures) s far k i l (beyond-is .over);
       kind = λ e. beyond-is .apart (sym (sector-cell s (border k i) (border-low k i l)) ∙ e ∙ sector-cell far (border (opposite k) i) (border-low (opposite k) i l));
     }
 

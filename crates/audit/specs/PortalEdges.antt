@@ -18,7 +18,8 @@ use Rattle.model.specs.WindowRuns.{crossing-in}
 use Rattle.model.specs.Halls.{Hall}
 use Rattle.model.specs.Portals.{portalSector, portalSide, portalWindow, portalMark, isPortal, midpoint, midCell, facing, headOf, key, outerEdge, innerEdge, edgeAt, portalGraph}
 use Rattle.model.specs.LeastPathFirst.{Fits, edgeCost, weight-at, portal-places}
-use Rattle.audit.specs.Borders.{border-low, sector-cell}
+use Rattle.model.specs.CellSides.{border-low}
+use Rattle.model.specs.SectorSides.{sector-cell}
 
 -- an edge of weight w from p to q, as an arc of the graph
 pub record Arc (h : Hall) (p q w : ℕ) : Type 0 where

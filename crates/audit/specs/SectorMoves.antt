@@ -1,29 +1,28 @@
 -- Moves inside a sector of the floor are the walks of the sector's own graph, so that `joined` and `movesTo` are least over all moves inside a sector.
-use Prim.Native.Nat.{ℕ, suc, _+_, _-_, _*_, _/_, _%_, _≤_, _<_}
+use Prim.Native.Nat.{ℕ, suc, _+_, _*_, _/_, _%_, _≤_, _<_}
 use native.Mathlib.Omega.{arith}
-use mathlib.Core.Path.{_≡_, refl, sym, ap, subst, _∙_}
-use mathlib.Core.Logic.{inl, inr, ⊎-elim}
-use mathlib.Core.Bool.{Bool, true, false, not}
+use mathlib.Core.Path.{_≡_, refl, sym, ap, subst, subst₂, _∙_}
+use mathlib.Core.Bool.{true, not}
 use mathlib.Core.List.{List}
-use lib.Dec.{ltb, leb, eqb}
+use lib.Dec.{eqb}
 use lib.ListN.{drop}
 use lib.Seq.{getD-take, getD-drop}
-use borrow.Author.Tests.{ltb-true, lt-ltb, leb-true, le-leb}
-use Rattle.laws.specs.Fold.{pick}
 use Rattle.laws.specs.Region.{region}
 use Rattle.laws.specs.Graph.{Walk, stay, along, walk-join}
 use Rattle.laws.specs.Floor.{Inside, here, move, inside-join}
 use Rattle.laws.specs.Detour.{LeastOf}
 use Rattle.model.specs.declared.Measures.{Measures}
 use Rattle.model.specs.declared.Side.{Side}
-use Rattle.model.specs.declared.Side.the-variants.{North, East, South, West}
 use Rattle.model.specs.Cells.{sideNumber, sideAt, beside}
 use Rattle.model.specs.Costs.{openAt}
-use Rattle.model.specs.Sectors.{floorNumber, sectorOf, placeOf, costsOf, across, down}
+use Rattle.model.specs.Sectors.{floorNumber, sectorOf, placeOf, costsOf}
 use Rattle.model.specs.Moves.{moveGraph, movesTo, joined}
-use Rattle.model.specs.MovesFewest.{side-number, side-low, Moves, move-is, move-one, moves-fewest, moves-any, joined-is, is-joined}
+use Rattle.model.specs.Sides.{side-number, side-low}
+use Rattle.model.specs.CellSides.{beside-over, over-beside}
+use Rattle.model.specs.SectorSides.{sector-cell}
+use Rattle.model.specs.MovesFewest.{Moves, move-is, move-one, moves-fewest, moves-any, joined-is, is-joined}
 use Rattle.model.specs.Account.{ShareSide}
-use Rattle.audit.specs.Borders.{share-inside, share-back, sector-cell}
+use Rattle.audit.specs.Borders.{over-share, share-over, over-inside}
 use Rattle.audit.specs.Crossings.{floorOf}
 
 -- ---- a sector's costs
@@ -31,67 +30,14 @@ pub open-in : (costs : List ℕ) (s i : ℕ) → i < 100 → openAt (costsOf cos
 unfolding openAt region
 open-in costs s i l = ap (λ (c : ℕ). not (eqb c 255)) (getD-take 100 (drop (s * 100) costs) i 255 l ∙ getD-drop (s * 100) costs i 255)
 
--- ---- side neighbours share a side
-module _ (m : Measures) (s : ℕ) where
-  share-beside : (i : ℕ) (k : Side) → i < 100 → beside i k < 100 → ShareSide m (floorNumber s i) (floorNumber s (beside i k))
-  unfolding beside
-  share-beside i North l h = go (leb 10 i) refl h
-    where
-      go : (t : Bool) → leb 10 i ≡ t → pick t (i - 10) 100 < 100 → ShareSide m (floorNumber s i) (floorNumber s (pick t (i - 10) 100))
-      go true e q = let b : 10 ≤ i = leb-true 10 i e in share-back m (floorNumber s (i - 10)) (floorNumber s i) (share-inside m s (i - 10) i q l (inl (omega arith)))
-      go false e q = absurd (omega arith)
-  share-beside i East l h = go (ltb (i % 10) 9) refl h
-    where
-      go : (t : Bool) → ltb (i % 10) 9 ≡ t → pick t (i + 1) 100 < 100 → ShareSide m (floorNumber s i) (floorNumber s (pick t (i + 1) 100))
-      go true e q = share-inside m s i (i + 1) l q (inr (refl, ltb-true (i % 10) 9 e))
-      go false e q = absurd (omega arith)
-  share-beside i South l h = go (ltb i 90) refl h
-    where
-      go : (t : Bool) → ltb i 90 ≡ t → pick t (i + 10) 100 < 100 → ShareSide m (floorNumber s i) (floorNumber s (pick t (i + 10) 100))
-      go true e q = share-inside m s i (i + 10) l q (inl refl)
-      go false e q = absurd (omega arith)
-  share-beside i West l h = go (ltb 0 (i % 10)) refl h
-    where
-      go : (t : Bool) → ltb 0 (i % 10) ≡ t → pick t (i - 1) 100 < 100 → ShareSide m (floorNumber s i) (floorNumber s (pick t (i - 1) 100))
-      go true e q = let b : 0 < i % 10 = ltb-true 0 (i % 10) e in share-back m (floorNumber s (i - 1)) (floorNumber s i) (share-inside m s (i - 1) i q l (inr (omega arith, omega arith)))
-      go false e q = absurd (omega arith)
+-- ---- side neighbours share a side, and cells of a sector that share a side are side neighbours
+share-beside : (m : Measures) (s i : ℕ) (k : Side) → i < 100 → beside i k < 100 → ShareSide m (floorNumber s i) (floorNumber s (beside i k))
+share-beside m s i k l h = over-share m k (floorNumber s i) (floorNumber s (beside i k)) (over-inside m s k i (beside i k) l h .0 (beside-over i k l h))
 
--- and cells of a sector that share a side are side neighbours
-beside-north : (i j : ℕ) → i ≡ j + 10 → beside i North ≡ j
-unfolding beside
-beside-north i j e = rw (le-leb 10 i (omega arith)) (omega arith)
-
-beside-south : (i j : ℕ) → j ≡ i + 10 → j < 100 → beside i South ≡ j
-unfolding beside
-beside-south i j e l = rw (lt-ltb i 90 (omega arith)) (omega arith)
-
-beside-east : (i j : ℕ) → j ≡ i + 1 → i % 10 < 9 → beside i East ≡ j
-unfolding beside
-beside-east i j e l = rw (lt-ltb (i % 10) 9 l) (omega arith)
-
-beside-west : (i j : ℕ) → i ≡ j + 1 → 0 < i % 10 → beside i West ≡ j
-unfolding beside
-beside-west i j e l = rw (lt-ltb 0 (i % 10) l) (omega arith)
-
--- in one column, one row on; in one row, one column on
-row-on : (i j : ℕ) → i % 10 ≡ j % 10 → j / 10 ≡ suc (i / 10) → j ≡ i + 10
-row-on i j e d = omega arith
-
-column-on : (i j : ℕ) → i / 10 ≡ j / 10 → j % 10 ≡ suc (i % 10) → (j ≡ i + 1) × (i % 10 < 9) × (0 < j % 10)
-column-on i j e d = (omega arith, omega arith, omega arith)
-
-share-side : (m : Measures) (x y : ℕ) → sectorOf x ≡ sectorOf y → ShareSide m x y → (k : Side) × (beside (placeOf x) k ≡ placeOf y)
-unfolding across down
-share-side m x y e (inl p) =
-    let q : x / 100 / m .rows ≡ y / 100 / m .rows = ap (λ (s : ℕ). s / m .rows) e in
-    let r : x / 100 % m .rows ≡ y / 100 % m .rows = ap (λ (s : ℕ). s % m .rows) e in
-    ⊎-elim (λ d. (South, beside-south (placeOf x) (placeOf y) (row-on (placeOf x) (placeOf y) (omega (arith, p .0)) (omega arith)) (omega arith)))
-    (λ d. (North, beside-north (placeOf x) (placeOf y) (row-on (placeOf y) (placeOf x) (omega (arith, p .0)) (omega arith)))) (p .1)
-share-side m x y e (inr p) =
-    let q : x / 100 / m .rows ≡ y / 100 / m .rows = ap (λ (s : ℕ). s / m .rows) e in
-    let r : x / 100 % m .rows ≡ y / 100 % m .rows = ap (λ (s : ℕ). s % m .rows) e in
-    ⊎-elim (λ d. let a = column-on (placeOf x) (placeOf y) (omega (arith, p .0)) (omega arith) in (East, beside-east (placeOf x) (placeOf y) (a .0) (a .1)))
-    (λ d. let a = column-on (placeOf y) (placeOf x) (omega (arith, p .0)) (omega arith) in (West, beside-west (placeOf x) (placeOf y) (a .0) (a .2))) (p .1)
+beside-share : (m : Measures) (s i j : ℕ) → i < 100 → j < 100 → ShareSide m (floorNumber s i) (floorNumber s j) → (k : Side) × (beside i k ≡ j)
+beside-share m s i j l h p =
+    let t = share-over m (floorNumber s i) (floorNumber s j) p in
+    (t .0, over-beside i j (t .0) l h (over-inside m s (t .0) i j l h .1 (t .1)))
 
 -- ---- walks of a sector's graph, and moves inside the sector
 module _ (m : Measures) (costs : List ℕ) where
@@ -130,9 +76,9 @@ module _ (m : Measures) (costs : List ℕ) where
 
   step-arc : (x y : ℕ) → floorOf m costs .Step x y → Walk (moveGraph (costsOf costs (sectorOf x))) (placeOf x) (placeOf y) 1
   step-arc x y w =
-      let k = share-side m x y (w .kind) (w .side) in
       let px : x ≡ floorNumber (sectorOf x) (placeOf x) = omega arith in
       let py : y ≡ floorNumber (sectorOf x) (placeOf y) = omega (arith, w .kind) in
+      let k = beside-share m (sectorOf x) (placeOf x) (placeOf y) (omega arith) (omega arith) (subst₂ (ShareSide m) px py (w .side)) in
       one-arc (sectorOf x) (placeOf x) (placeOf y) (k .0) (omega arith) (k .1)
       (record {
         inside = omega arith;

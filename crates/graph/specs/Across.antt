@@ -1,74 +1,30 @@
 -- Every edge of the portal graph is there in both directions: outer edges lead back over the facing side, inner edges are as many moves back.
-use Prim.Native.Nat.{ℕ, zero, suc, _+_, _-_, _*_, _/_, _%_, _≤_, _<_}
-use native.Mathlib.Nat.{mul-zero, mod-lt, mod-le, mod-eq-of-lt, mul-add-mod-self-right, div-add-mod'}
+use Prim.Native.Nat.{ℕ, _+_, _*_, _/_, _%_, _<_}
 use native.Mathlib.Omega.{arith}
 use mathlib.Core.Path.{_≡_, refl, sym, ap, _∙_}
 use mathlib.Core.Bool.{Bool, true, false, _&&_}
 use mathlib.Core.List.{List}
 use lib.Dec.{ltb, eqb}
 use lib.ListN.{getD}
-use borrow.Author.Tests.{ltb-true, lt-ltb, leb-true, le-leb, eqb-true, eqb-false, eq-eqb, ne-eqb}
+use borrow.Author.Tests.{ltb-true, lt-ltb, eqb-true, eqb-false, eq-eqb, ne-eqb}
 use Rattle.laws.specs.Fold.{pick}
 use Rattle.laws.specs.Search.{both}
 use Rattle.laws.specs.Graph.{BothWays}
-use Rattle.model.specs.declared.Measures.{Measures}
 use Rattle.model.specs.declared.Side.{Side}
-use Rattle.model.specs.declared.Side.the-variants.{North, East, South, West}
 use Rattle.model.specs.Cells.{sideNumber, sideAt, opposite}
 use Rattle.model.specs.Sectors.{sectors, beyond, hasBeyond, costsOf}
 use Rattle.model.specs.Moves.{moves, apart}
-use Rattle.model.specs.MovesFewest.{side-number, side-low, moves-back}
-use Rattle.model.specs.Windows.{border, windowCount, crossing}
+use Rattle.model.specs.Sides.{side-number, side-low, number-side, opposite-is}
+use Rattle.model.specs.CellSides.{border-low}
+use Rattle.model.specs.SectorSides.{lies-beyond}
+use Rattle.model.specs.MovesFewest.{moves-back}
+use Rattle.model.specs.Windows.{windowCount, crossing}
 use Rattle.model.specs.WindowRuns.{window-run, crossing-in}
 use Rattle.model.specs.Halls.{Hall}
 use Rattle.model.specs.Portals.{portalSector, portalSide, portalWindow, portalMark, isPortal, midpoint, facing, headOf, key, outerEdge, innerEdge, edgeAt, portalGraph}
 use Rattle.model.specs.LeastPathFirst.{Fits, weight-at, portal-sound}
 
--- ---- the sector beyond
--- one row up or down stays in the column
-row-on : (n s : ℕ) → s % n + 1 < n → (s + 1) % n ≡ s % n + 1
-row-on n s l =
-    let q : s + 1 ≡ s / n * n + (s % n + 1) = omega (arith, div-add-mod' s n) in
-    ap (λ (k : ℕ). k % n) q ∙ mul-add-mod-self-right (s / n) n (s % n + 1) ∙ mod-eq-of-lt l
-
-row-back : (n s : ℕ) → 0 < s % n → s % n < n → (s - 1) % n + 1 ≡ s % n
-row-back n s p l =
-    let q : s - 1 ≡ s / n * n + (s % n - 1) = omega (arith, div-add-mod' s n) in
-    let low : s % n - 1 < n = omega arith in
-    let r : (s - 1) % n ≡ s % n - 1 = ap (λ (k : ℕ). k % n) q ∙ mul-add-mod-self-right (s / n) n (s % n - 1) ∙ mod-eq-of-lt low in
-    omega (arith, r)
-
--- over a side and back over the opposite one
-pub record Back (m : Measures) (s : ℕ) (side : Side) : Type 0 where
-  pub has : hasBeyond m (beyond m s side) (opposite side) ≡ true
-  pub is : beyond m (beyond m s side) (opposite side) ≡ s
-
-pub beyond-back : (m : Measures) (s : ℕ) (side : Side) → s < sectors m → s % m .rows < m .rows → hasBeyond m s side ≡ true → Back m s side
-unfolding hasBeyond beyond
-beyond-back m s North l r e =
-    let p : 0 < s % m .rows = ltb-true 0 (s % m .rows) e in
-    record { has = lt-ltb ((s - 1) % m .rows + 1) (m .rows) (omega (arith, row-back (m .rows) s p r)); is = omega (arith, mod-le s (m .rows)) }
-beyond-back m s East l r e = record { has = le-leb (m .rows) (s + m .rows) (omega arith); is = omega arith }
-beyond-back m s South l r e =
-    let p : s % m .rows + 1 < m .rows = ltb-true (s % m .rows + 1) (m .rows) e in
-    record { has = lt-ltb 0 ((s + 1) % m .rows) (omega (arith, row-on (m .rows) s p)); is = omega arith }
-beyond-back m s West l r e =
-    let p : m .rows ≤ s = leb-true (m .rows) s e in
-    record { has = lt-ltb (s - m .rows + m .rows) (sectors m) (omega (arith, l)); is = omega arith }
-
-opposite-twice : (side : Side) → opposite (opposite side) ≡ side
-opposite-twice North = refl
-opposite-twice East = refl
-opposite-twice South = refl
-opposite-twice West = refl
-
 -- ---- a portal by its parts
-pub number-side : (n : ℕ) → n < 4 → sideNumber (sideAt n) ≡ n
-number-side zero l = refl
-number-side (suc zero) l = refl
-number-side (suc (suc zero)) l = refl
-number-side (suc (suc (suc n))) l = omega arith
-
 -- what is read from sector, side and window
 pub record Parts (s : ℕ) (side : Side) (j p : ℕ) : Type 0 where
   pub sector : portalSector p ≡ s
@@ -96,14 +52,6 @@ module _ (h : Hall) where
       let t = both (ltb (portalSector p) (sectors (h .measures))) (ltb (portalWindow p) (windowCount (portalMark h p))) e in
       record { inside = ltb-true (portalSector p) (sectors (h .measures)) (t .0); among = ltb-true (portalWindow p) (windowCount (portalMark h p)) (t .1) }
 
-  -- a sector of the hall has rows
-  some-rows : (s : ℕ) → s < sectors (h .measures) → s % h .measures .rows < h .measures .rows
-  some-rows s l = mod-lt s (pos (h .measures .rows) refl)
-    where
-      pos : (n : ℕ) → h .measures .rows ≡ n → 0 < h .measures .rows
-      pos zero e = let z : sectors (h .measures) ≡ 0 = rw e (mul-zero (h .measures .columns)) in absurd (omega arith)
-      pos (suc n) e = omega arith
-
   -- ---- outer edges
   facing-parts : (p : ℕ) → Parts (beyond (h .measures) (portalSector p) (portalSide p)) (opposite (portalSide p)) (portalWindow p) (facing h p)
   unfolding facing
@@ -113,8 +61,8 @@ module _ (h : Hall) where
       → (hasBeyond (h .measures) (portalSector (facing h p)) (portalSide (facing h p)) ≡ true) × (facing h (facing h p) ≡ p)
   facing-back p portal e =
       let f = facing-parts p in
-      let b = beyond-back (h .measures) (portalSector p) (portalSide p) (portal .inside) (some-rows (portalSector p) (portal .inside)) e in
-      (rw (f .sector, f .on) (b .has), unfold facing in rw (f .sector, f .on, f .window, b .is, opposite-twice (portalSide p)) (sym (portal-is p)))
+      let b = lies-beyond (h .measures) (portalSector p) (portal .inside) (portalSide p) e in
+      (rw (f .sector, f .on) (b .back-has), unfold facing in rw (f .sector, f .on, f .window, b .back, opposite-is (portalSide p) .twice) (sym (portal-is p)))
 
   -- ---- an edge, by its kind
   -- the moves from a portal's midpoint
@@ -179,12 +127,6 @@ module _ (h : Hall) where
     midpoint-low p portal =
         let run = window-run (portalMark h p) (fits .marked (portalSector p) (portalSide p)) (portalWindow p) (portal .among) in
         border-low (portalSide p) (crossing (portalMark h p) (portalWindow p)) (omega (arith, crossing-in run .1, run .inside))
-      where
-        border-low : (side : Side) (i : ℕ) → i < 10 → border side i < 100
-        border-low North i l = omega arith
-        border-low East i l = omega arith
-        border-low South i l = omega arith
-        border-low West i l = omega arith
 
     return : (p c w : ℕ) → c < 20 → Edge p c w → Return p c w
     unfolding headOf

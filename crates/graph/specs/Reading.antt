@@ -8,10 +8,8 @@ use lib.Dec.{ltb}
 use lib.ListN.{length}
 use borrow.Author.Tests.{lt-ltb, le-ltb}
 use Rattle.model.specs.declared.Measures.{Measures}
-use Rattle.model.specs.declared.Side.{Side}
-use Rattle.model.specs.declared.Side.the-variants.{North, East, South, West}
 use Rattle.model.specs.Cells.{sideNumber, sideAt}
-use Rattle.model.specs.Sectors.{sectors, cells, beyond}
+use Rattle.model.specs.Sectors.{sectors, cells}
 use Rattle.model.specs.Windows.{windowCount, firstPlace, lastPlace}
 use Rattle.model.specs.WindowRuns.{Run, window-run}
 use Rattle.model.specs.Portals.{portalMark, isPortal}
@@ -21,7 +19,8 @@ use Rattle.store.specs.Checks.{few-sectors}
 use Rattle.model.specs.StoreLayout.{marks-at}
 use Rattle.portal.specs.declared.runs.OpenRun.{OpenRun}
 use Rattle.portal.specs.Runs.{placesOf}
-use Rattle.graph.specs.Across.{number-side, portal-of}
+use Rattle.model.specs.Sides.{number-side}
+use Rattle.graph.specs.Across.{portal-of}
 use Rattle.graph.specs.EdgeTable.{Opened, checked-fits}
 
 -- how large the measures are
@@ -37,13 +36,6 @@ pub record Places (mark j : ℕ) (w : OpenRun) : Type 0 where
   pub ends : w .last ≡ lastPlace mark j
   pub low-first : w .«first» < 10
   pub low-last : w .last < 10
-
-pub beyond-low : (m : Measures) (s : ℕ) (side : Side) → beyond m s side ≤ s + m .rows + 1
-unfolding beyond
-beyond-low m s North = omega arith
-beyond-low m s East = omega arith
-beyond-low m s South = omega arith
-beyond-low m s West = omega arith
 
 module _ {m : Measures} {st : List ℕ} (o : Opened m st) where
   pub measures-are : decode st .measures ≡ m

@@ -1,5 +1,5 @@
 -- What windows answers and leaves in the list, in the shapes of its returns.
-use mathlib.Core.Path.{_≡_, refl, sym, ap, _∙_}
+use mathlib.Core.Path.{_≡_, sym, ap, _∙_}
 use mathlib.Core.List.{List}
 use Prim.Native.Nat.{ℕ, zero, suc, _+_, _*_, _/_, _≤_, _<_}
 use native.Mathlib.Omega.{arith}
@@ -10,7 +10,7 @@ use Rattle.laws.specs.Ladder.{refuse}
 use Rattle.laws.specs.Table.{tabulate-at}
 use Rattle.model.specs.declared.Measures.{Measures}
 use Rattle.model.specs.declared.Listed.the-variants.{Windows, Refused}
-use Rattle.model.specs.Cells.{sideNumber, sideAt}
+use Rattle.model.specs.Sides.{number-side}
 use Rattle.model.specs.Sectors.{sectors}
 use Rattle.model.specs.Store.{measuresAt, marksIn, decode}
 use Rattle.model.specs.Calls.{orElse, ifAccepted, checkNumber, windowsOf, windowsNumber, listed, windowsAnswer, windowsFlat}
@@ -20,14 +20,6 @@ use Rattle.parts.specs.Marks.{sectorMarks}
 use Rattle.hall.proofs.Passed.{refused-first, none, passed}
 
 -- ---- the marks of a sector
--- a side by its number
-side-number : (k : ℕ) → k < 4 → sideNumber (sideAt k) ≡ k
-side-number zero h = refl
-side-number (suc zero) h = refl
-side-number (suc (suc zero)) h = refl
-side-number (suc (suc (suc zero))) h = refl
-side-number (suc (suc (suc (suc k)))) h = absurd (omega arith)
-
 module _ {st : List ℕ} {m : Measures} (s : ℕ) {marks : List ℕ} (read : m ≡ measuresAt st) (k : Checked st) (on : s < sectors m) (are : marks ≡ sectorMarks (marksIn m st) s) where
   side-mark : (i : ℕ) → i < 4 → getD marks i 0 ≡ getD (marksIn (measuresAt st) st) (s * 4 + i) 0
   unfolding sectorMarks
@@ -39,7 +31,7 @@ module _ {st : List ℕ} {m : Measures} (s : ℕ) {marks : List ℕ} (read : m �
 
   windows-are : windowsOf (decode st) s ≡ windowsBy marks 4
   unfolding decode
-  windows-are = windows-by (decode st) s marks (λ i h. side-mark i h ∙ ap (λ j. getD (marksIn (measuresAt st) st) (s * 4 + j) 0) (sym (side-number i h)))
+  windows-are = windows-by (decode st) s marks (λ i h. side-mark i h ∙ ap (λ j. getD (marksIn (measuresAt st) st) (s * 4 + j) 0) (sym (number-side i h)))
 
 -- ---- what is answered, and left in the list
 module _ (st : List ℕ) (s : ℕ) (list : List ℕ) where

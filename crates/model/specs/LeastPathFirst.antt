@@ -1,5 +1,5 @@
 -- `leastPath` is least among all portal paths: by cost, then by edges, then by the first difference in `PortalNode` order; and there is none exactly where its key says so.
-use Prim.Native.Nat.{ℕ, zero, suc, _+_, _*_, _/_, _%_, _≤_, _<_}
+use Prim.Native.Nat.{ℕ, _+_, _*_, _/_, _%_, _≤_, _<_}
 use native.Mathlib.Omega.{arith}
 use mathlib.Core.Path.{_≡_, refl, sym, ap, _∙_}
 use mathlib.Core.Bool.{Bool, true, false, _&&_}
@@ -15,11 +15,12 @@ use Rattle.laws.specs.LeastCosts.{least-costs-settled}
 use Rattle.laws.specs.FirstPath.{Tells}
 use Rattle.laws.specs.Keys.{Keyed, Journey, Before, least-journey, journey-reached}
 use Rattle.model.specs.declared.Side.{Side}
-use Rattle.model.specs.declared.Side.the-variants.{North, East, South, West}
-use Rattle.model.specs.Cells.{sideNumber, sideAt}
+use Rattle.model.specs.Cells.{cellAt, sideNumber}
+use Rattle.model.specs.Sides.{other, axis, number-side}
+use Rattle.model.specs.CellSides.{cellOn, on-border}
 use Rattle.model.specs.Sectors.{sectors, costsOf, hasBeyond}
 use Rattle.model.specs.Moves.{moves, apart}
-use Rattle.model.specs.Windows.{borderCell, windowCount, firstPlace, lastPlace}
+use Rattle.model.specs.Windows.{borderCell, border, windowCount, firstPlace, lastPlace}
 use Rattle.model.specs.WindowRuns.{Run, window-run, first-apart}
 use Rattle.model.specs.Halls.{Hall, markAt}
 use Rattle.model.specs.Portals.{portalSector, portalSide, portalWindow, portalMark, isPortal, midpoint, facing, headOf, key, outerEdge, innerEdge, edgeAt, edgesFrom, edgesOf, edges, portalGraph}
@@ -114,22 +115,14 @@ edge-portal h p from c = go (eqb c (p % 20))
 
 -- ---- cells of a border by their rank
 rank-low : (side : Side) (i : ℕ) → i < 10 → cellRank (borderCell side i) < 100
-rank-low North i l = omega arith
-rank-low East i l = omega arith
-rank-low South i l = omega arith
-rank-low West i l = omega arith
+rank-low side i l = let b = on-border side i l in omega arith
 
-rank-place : (side : Side) (i j : ℕ) → cellRank (borderCell side i) ≡ cellRank (borderCell side j) → i ≡ j
-rank-place North i j e = omega arith
-rank-place East i j e = omega arith
-rank-place South i j e = omega arith
-rank-place West i j e = omega arith
-
-number-side : (n : ℕ) → n < 4 → sideNumber (sideAt n) ≡ n
-number-side zero l = refl
-number-side (suc zero) l = refl
-number-side (suc (suc zero)) l = refl
-number-side (suc (suc (suc n))) l = omega arith
+rank-place : (side : Side) (i j : ℕ) → i < 10 → j < 10 → cellRank (borderCell side i) ≡ cellRank (borderCell side j) → i ≡ j
+rank-place side i j l k e =
+    let b = on-border side i l in
+    let c = on-border side j k in
+    let same : border side i ≡ border side j = omega arith in
+    sym (b .place) ∙ ap (λ (n : ℕ). cellOn (cellAt n) (other (axis side))) same ∙ c .place
 
 -- sector, side and window say which portal it is
 portal-parts : (p : ℕ) → p ≡ p / 20 * 20 + p % 20 / 5 * 5 + p % 5
@@ -201,7 +194,9 @@ module _ (h : Hall) where
         same-window p q s k ip iq e =
             let cp = ltb-true (portalWindow p) (windowCount (portalMark h p)) (both (ltb (portalSector p) (sectors (h .measures))) (ltb (portalWindow p) (windowCount (portalMark h p))) ip .1) in
             let cq = ltb-true (portalWindow q) (windowCount (portalMark h q)) (both (ltb (portalSector q) (sectors (h .measures))) (ltb (portalWindow q) (windowCount (portalMark h q))) iq .1) in
-            let first = rank-place (portalSide q) (firstPlace (portalMark h q) (portalWindow p)) (firstPlace (portalMark h q) (portalWindow q)) (rw (s, k) at e) in
+            let run = window-run (portalMark h q) (fits .marked (portalSector q) (portalSide q)) (portalWindow p) (rw (s, k) at cp) in
+            let sun = portal-places q iq in
+            let first = rank-place (portalSide q) (firstPlace (portalMark h q) (portalWindow p)) (firstPlace (portalMark h q) (portalWindow q)) (omega arith) (omega arith) (rw (s, k) at e) in
             first-apart (portalMark h q) (fits .marked (portalSector q) (portalSide q)) (portalWindow p) (portalWindow q) (rw (s, k) at cp) cq first
 
     pub rank-tells : Tells (portalGraph h) (nodeRank h)

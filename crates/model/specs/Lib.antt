@@ -2,6 +2,9 @@ pub mod Cells
 pub mod Costs
 pub mod CostsRead
 pub mod Sectors
+pub mod Sides
+pub mod CellSides
+pub mod SectorSides
 pub mod Steps
 pub mod FlatSteps
 pub mod Directions

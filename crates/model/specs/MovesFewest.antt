@@ -1,59 +1,23 @@
 -- `moves` gives the fewest moves, and `apart` exactly where no moves lead. The way back is as long, the triangle rule holds, and "joined" is an equivalence.
-use Prim.Native.Nat.{ℕ, _+_, _-_, _*_, _/_, _%_, _≤_, _<_}
+use Prim.Native.Nat.{ℕ, _+_, _*_, _/_, _%_, _≤_, _<_}
 use native.Mathlib.Omega.{arith}
 use mathlib.Core.Path.{_≡_, refl, sym, _∙_}
 use mathlib.Core.Bool.{Bool, true, false, _&&_}
 use mathlib.Core.List.{List}
-use lib.Dec.{leb, ltb, eqb}
+use lib.Dec.{ltb, eqb}
 use lib.ListN.{getD}
-use borrow.Author.Tests.{ltb-true, lt-ltb, leb-true, le-leb, eqb-true, eq-eqb}
+use borrow.Author.Tests.{ltb-true, lt-ltb, eqb-true, eq-eqb}
 use Rattle.laws.specs.Fold.{pick}
 use Rattle.laws.specs.Search.{both}
 use Rattle.laws.specs.Graph.{Sound, Walk, Least, Settled, BothWays, none-less, settled-least, reached, walk-join, least-back}
 use Rattle.laws.specs.LeastCosts.{least-costs-settled}
 use Rattle.model.specs.declared.Side.{Side}
-use Rattle.model.specs.declared.Side.the-variants.{North, East, South, West}
 use Rattle.model.specs.Cells.{sideNumber, sideAt, opposite, beside}
+use Rattle.model.specs.Sides.{side-number, side-low}
+use Rattle.model.specs.CellSides.{beside-back}
 use Rattle.model.specs.Costs.{openAt}
 use Rattle.model.specs.Sectors.{sectorOf, placeOf, costsOf}
 use Rattle.model.specs.Moves.{move, moveGraph, apart, moves, movesTo, joined}
-
--- ---- sides
-pub side-number : (side : Side) → sideAt (sideNumber side) ≡ side
-side-number North = refl
-side-number East = refl
-side-number South = refl
-side-number West = refl
-
-pub side-low : (side : Side) → sideNumber side < 4
-side-low North = omega arith
-side-low East = omega arith
-side-low South = omega arith
-side-low West = omega arith
-
--- the cell beside over a side has the first one beside it over the opposite side
-pub beside-back : (i : ℕ) (side : Side) → i < 100 → beside i side < 100 → beside (beside i side) (opposite side) ≡ i
-unfolding beside
-beside-back i North l h = go (leb 10 i) refl h
-  where
-    go : (t : Bool) → leb 10 i ≡ t → pick t (i - 10) 100 < 100 → pick (ltb (pick t (i - 10) 100) 90) (pick t (i - 10) 100 + 10) 100 ≡ i
-    go true e q = let b : 10 ≤ i = leb-true 10 i e in rw (lt-ltb (i - 10) 90 (omega arith)) (omega arith)
-    go false e q = absurd (omega arith)
-beside-back i East l h = go (ltb (i % 10) 9) refl h
-  where
-    go : (t : Bool) → ltb (i % 10) 9 ≡ t → pick t (i + 1) 100 < 100 → pick (ltb 0 (pick t (i + 1) 100 % 10)) (pick t (i + 1) 100 - 1) 100 ≡ i
-    go true e q = let b : i % 10 < 9 = ltb-true (i % 10) 9 e in rw (lt-ltb 0 ((i + 1) % 10) (omega arith)) (omega arith)
-    go false e q = absurd (omega arith)
-beside-back i South l h = go (ltb i 90) refl h
-  where
-    go : (t : Bool) → ltb i 90 ≡ t → pick t (i + 10) 100 < 100 → pick (leb 10 (pick t (i + 10) 100)) (pick t (i + 10) 100 - 10) 100 ≡ i
-    go true e q = rw (le-leb 10 (i + 10) (omega arith)) (omega arith)
-    go false e q = absurd (omega arith)
-beside-back i West l h = go (ltb 0 (i % 10)) refl h
-  where
-    go : (t : Bool) → ltb 0 (i % 10) ≡ t → pick t (i - 1) 100 < 100 → pick (ltb (pick t (i - 1) 100 % 10) 9) (pick t (i - 1) 100 + 1) 100 ≡ i
-    go true e q = let b : 0 < i % 10 = ltb-true 0 (i % 10) e in rw (lt-ltb ((i - 1) % 10) 9 (omega arith)) (omega arith)
-    go false e q = absurd (omega arith)
 
 -- ---- the graph of moves
 -- what a move says

@@ -1,8 +1,7 @@
 -- `landing` over the plain floor: in every direction, n steps move column and row separately, and end on the floor exactly where both stay on it.
 use Prim.Native.Nat.{ℕ, _+_, _-_, _*_, _/_, _%_, _≤_, _<_}
-use native.Mathlib.Nat.{add-mul-mod-self-right, add-mul-div-right, mod-eq-of-lt, div-eq-of-lt}
 use native.Mathlib.Omega.{arith}
-use mathlib.Core.Path.{_≡_, ap}
+use mathlib.Core.Path.{_≡_}
 use mathlib.Core.Logic.{_↔_}
 use mathlib.Core.Bool.{true}
 use lib.Dec.{leb}
@@ -10,7 +9,9 @@ use borrow.Author.Tests.{leb-true, le-leb}
 use Rattle.laws.specs.Search.{both}
 use Rattle.model.specs.declared.Measures.{Measures}
 use Rattle.model.specs.declared.CompassDir.{CompassDir}
-use Rattle.model.specs.Sectors.{columnOf, rowOf, sectorNumber, floorNumber, across, down}
+use Rattle.model.specs.Sectors.{columnOf, rowOf, floorNumber, across, down}
+use Rattle.model.specs.Sides.{Column, Row}
+use Rattle.model.specs.SectorSides.{sector-is, floor-on}
 use Rattle.model.specs.Directions.{eastward, southward, stepped, landing, shifted, onAxis, onFloor}
 
 -- ---- one axis: a sector's place on it, a cell's place in the sector, and n steps of e, where 1 stands still
@@ -31,37 +32,6 @@ axis-moved : (sector c e n : ℕ) → c < 10 → n ≤ 9 → 1 ≤ sector + step
 axis-moved sector c e n l k h = omega arith
 
 -- ---- the two axes of a floor
--- column and row of a sector by its number
-pub column-is : (m : Measures) (c r : ℕ) → r < m .rows → columnOf m (sectorNumber m c r) ≡ c
-column-is m c r l = omega (arith, ap (λ (n : ℕ). n / m .rows) (sum c r), add-mul-div-right r c (some l), div-eq-of-lt l)
-  where
-    sum : (c r : ℕ) → c * m .rows + r ≡ r + c * m .rows
-    sum c r = omega arith
-
-    some : r < m .rows → 0 < m .rows
-    some h = omega arith
-
-pub row-is : (m : Measures) (c r : ℕ) → r < m .rows → rowOf m (sectorNumber m c r) ≡ r
-row-is m c r l = omega (arith, ap (λ (n : ℕ). n % m .rows) (sum c r), add-mul-mod-self-right r c (m .rows), mod-eq-of-lt l)
-  where
-    sum : (c r : ℕ) → c * m .rows + r ≡ r + c * m .rows
-    sum c r = omega arith
-
--- a cell on the plain floor, by sector and index
-pub across-is : (m : Measures) (s i : ℕ) → i < 100 → across m (floorNumber s i) ≡ columnOf m s * 10 + i % 10
-unfolding across
-across-is m s i l =
-    let sector : (s * 100 + i) / 100 ≡ s = omega arith in
-    let place : (s * 100 + i) % 100 ≡ i = omega arith in
-    rw (sector, place)
-
-pub down-is : (m : Measures) (s i : ℕ) → i < 100 → down m (floorNumber s i) ≡ rowOf m s * 10 + i / 10
-unfolding down
-down-is m s i l =
-    let sector : (s * 100 + i) / 100 ≡ s = omega arith in
-    let place : (s * 100 + i) % 100 ≡ i = omega arith in
-    rw (sector, place)
-
 -- a place so many steps from another lies on an axis so many cells wide
 abbrev pub Stays : ℕ → ℕ → ℕ → ℕ → Type 0
 Stays from steps e wide = (steps ≤ from + steps * e) × (from + steps * e < wide + steps)
@@ -74,7 +44,7 @@ module _ (m : Measures) (s i n : ℕ) (d : CompassDir) (cell : i < 100) (few : n
   landing-on =
       let east = axis-on (columnOf m s) (m .columns) (i % 10) (eastward d) n (omega arith) few in
       let south = axis-on (rowOf m s) (m .rows) (i / 10) (southward d) n (omega arith) few in
-      rw (across-is m s i cell, down-is m s i cell) (
+      rw (floor-on m s i cell Column, floor-on m s i cell Row) (
         λ h. let t = both (onAxis (columnOf m s + stepped (i % 10) (eastward d) n / 10) (m .columns)) (onAxis (rowOf m s + stepped (i / 10) (southward d) n / 10) (m .rows)) h in (east .0 (t .0), south .0 (t .1)),
         λ h. rw (east .1 (h .0), south .1 (h .1)),
       )
@@ -96,5 +66,6 @@ module _ (m : Measures) (s i n : ℕ) (d : CompassDir) (cell : i < 100) (few : n
       let column-part : (y % 10 * 10 + x % 10) % 10 ≡ x % 10 = omega arith in
       let row-part : (y % 10 * 10 + x % 10) / 10 ≡ y % 10 = omega arith in
       let sector : ℕ = shifted m s (x / 10) (y / 10) in
-      rw (across-is m sector (y % 10 * 10 + x % 10) low, down-is m sector (y % 10 * 10 + x % 10) low, across-is m s i cell, down-is m s i cell, column-part, row-part, column-is m (columnOf m s + x / 10 - 1) (rowOf m s + y / 10 - 1) row, row-is m (columnOf m s + x / 10 - 1) (rowOf m s + y / 10 - 1) row)
+      let there = sector-is m (columnOf m s + x / 10 - 1) (rowOf m s + y / 10 - 1) row in
+      rw (floor-on m sector (y % 10 * 10 + x % 10) low Column, floor-on m sector (y % 10 * 10 + x % 10) low Row, floor-on m s i cell Column, floor-on m s i cell Row, column-part, row-part, there .0, there .1)
       (axis-moved (columnOf m s) (i % 10) (eastward d) n (omega arith) few east, axis-moved (rowOf m s) (i / 10) (southward d) n (omega arith) few down-low)

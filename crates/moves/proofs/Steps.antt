@@ -13,7 +13,8 @@ use Rattle.model.specs.declared.Side.{Side}
 use Rattle.model.specs.Cells.{sideNumber, sideAt, beside}
 use Rattle.model.specs.Costs.{openAt}
 use Rattle.model.specs.Moves.{moveGraph, moves}
-use Rattle.model.specs.MovesFewest.{Moves, side-number, side-low, move-is, move-one, move-sound, move-back, moves-settled}
+use Rattle.model.specs.Sides.{side-number, side-low}
+use Rattle.model.specs.MovesFewest.{Moves, move-is, move-one, move-sound, move-back, moves-settled}
 
 -- the fewest moves to cell i
 abbrev pub far : List ℕ → ℕ → ℕ → ℕ

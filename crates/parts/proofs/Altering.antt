@@ -14,9 +14,10 @@ use Rattle.laws.specs.Region.{region}
 use Rattle.laws.specs.Table.{tabulate, length-tabulate, tabulate-at}
 use Rattle.model.specs.declared.Measures.{Measures}
 use Rattle.model.specs.declared.Side.{Side}
-use Rattle.model.specs.declared.Side.the-variants.{North, East, South, West}
 use Rattle.model.specs.Cells.{sideNumber, sideAt, opposite}
 use Rattle.model.specs.Sectors.{sectors, cells, sectorOf, beyond, hasBeyond}
+use Rattle.model.specs.Sides.{side-low}
+use Rattle.model.specs.SectorSides.{beyond-low}
 use Rattle.model.specs.Windows.{bits, openPlace, markOf, windowCount}
 use Rattle.model.specs.WindowRuns.{bits-small}
 use Rattle.model.specs.Store.{measuresAt, marksIn, hallIn, decode, written}
@@ -33,10 +34,7 @@ none-past (x ∷ l) zero h = absurd (not-suc-le-zero h)
 none-past (x ∷ l) (suc k) h = none-past l k (le-of-suc-le-suc h)
 
 pub side-few : (side : Side) {n : ℕ} → n ≡ sideNumber side → n ≤ 3
-side-few North e = omega arith
-side-few East e = omega arith
-side-few South e = omega arith
-side-few West e = omega arith
+side-few side e = omega (arith, side-low side)
 
 pub windows-counted : (marks : List ℕ) (s : ℕ) (side : Side) {n mark r : ℕ} → Small marks → n ≡ sideNumber side → mark ≡ getD marks (s * 4 + n) 0 → (mark ≤ 1023 → r ≡ windowCount mark) → r ≡ windowCount (getD marks (s * 4 + sideNumber side) 0)
 windows-counted marks s side {n} k e is count =
@@ -44,11 +42,7 @@ windows-counted marks s side {n} k e is count =
     count (rw at (k .small (s * 4 + sideNumber side))) ∙ ap windowCount at
 
 pub beyond-few : {m : Measures} (s : ℕ) (side : Side) {other : ℕ} → Floor m → s ≤ 10000 → other ≡ beyond m s side → other ≤ 20000
-unfolding beyond
-beyond-few s North f l e = omega arith
-beyond-few s East f l e = omega (arith, f .sides .few-rows)
-beyond-few s South f l e = omega arith
-beyond-few s West f l e = omega arith
+beyond-few {m} s side f l e = omega (arith, f .sides .few-rows, beyond-low m s side)
 
 module _ (m : Measures) (marks : List ℕ) (t s k : ℕ) {side : Side} (at : side ≡ sideAt k) {edge : Bool} (is : edge ≡ (hasBeyond m s side && isNearby m t s && not (isNearby m t (beyond m s side)))) where
   pub exceeds-edge : {facing : Side} {other a b : ℕ} → edge ≡ true → other ≡ beyond m s side → facing ≡ opposite side

@@ -13,10 +13,10 @@ use borrow.Rule.Slice.PartMut.{putMid}
 use Rattle.laws.specs.Table.{tabulate, length-tabulate, tabulate-more}
 use Rattle.model.specs.declared.PortalWindow.{PortalWindow}
 use Rattle.model.specs.declared.Side.{Side}
-use Rattle.model.specs.declared.Side.the-variants.{North, East, South, West}
 use Rattle.model.specs.Cells.{sideNumber, sideAt}
 use Rattle.model.specs.Windows.{border, windowCount, windowAt, sideWindows}
 use Rattle.model.specs.WindowRuns.{window-run}
+use Rattle.model.specs.Sides.{side-low}
 use Rattle.model.specs.Calls.{flatWindows}
 use Rattle.portal.specs.declared.runs.OpenRun.{OpenRun}
 use Rattle.portal.specs.Runs.{placesOf}
@@ -33,10 +33,7 @@ module _ {mark j : ℕ} {run : OpenRun} (e : run ≡ placesOf mark j) (m : mark 
 pub ruleset inside = (first-inside, last-inside)
 
 pub side-small : (side : Side) {n : ℕ} → n ≡ sideNumber side → n < 256
-side-small North e = omega arith
-side-small East e = omega arith
-side-small South e = omega arith
-side-small West e = omega arith
+side-small side e = omega (arith, side-low side)
 
 pub window-is : (side : Side) (mark j : ℕ) {run : OpenRun} {a z n k : ℕ} → run ≡ placesOf mark j → a ≡ border side (run .«first») → z ≡ border side (run .last) → k ≡ sideNumber side → n ≡ k
     → record { «first» = a; last = z; side = n } ≡ windowAt side mark j

@@ -8,10 +8,10 @@ use Rattle.model.specs.declared.BorderCells.{BorderCells}
 use Rattle.model.specs.declared.FieldCell.{FieldCell}
 use Rattle.model.specs.declared.Measures.{Measures}
 use Rattle.model.specs.declared.Side.{Side}
-use Rattle.model.specs.declared.Side.the-variants.{North, East, South, West}
 use Rattle.model.specs.Cells.{indexOf}
 use Rattle.model.specs.Costs.{openAt}
 use Rattle.model.specs.Sectors.{beyond, hasBeyond}
+use Rattle.model.specs.SectorSides.{beyond-low}
 use Rattle.model.specs.Windows.{borderCells, openPlace, bits, markOf}
 use Rattle.model.specs.WindowRuns.{bits-same}
 use Rattle.portal.specs.Marks.{openPair, openBetween}
@@ -27,11 +27,7 @@ pair-no costs s t own facing e a h = rw (← e, ← a, h)
 
 -- ---- the mark of a side
 pub beyond-small : (m : Measures) (s : ℕ) (side : Side) {t : ℕ} → t ≡ beyond m s side → s ≤ 10000 → m .rows < 256 → t ≤ 20000
-unfolding beyond
-beyond-small m s North e a b = omega arith
-beyond-small m s East e a b = omega arith
-beyond-small m s South e a b = omega arith
-beyond-small m s West e a b = omega arith
+beyond-small m s side e a b = omega (arith, beyond-low m s side)
 
 pub mark-beyond : (m : Measures) (costs : List ℕ) (s : ℕ) (side : Side) {b : Bool} {t r : ℕ} {cells : BorderCells} → b ≡ hasBeyond m s side → b ≡ true → t ≡ beyond m s side → cells ≡ borderCells side
     → r ≡ bits (openBetween costs s (cells .own) t (cells .facing)) 10 → r ≡ markOf m costs s side

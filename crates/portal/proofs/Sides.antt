@@ -8,8 +8,8 @@ use Rattle.laws.specs.Table.{tabulate, table-at}
 use Rattle.model.specs.declared.FieldCell.{FieldCell}
 use Rattle.model.specs.declared.BorderCells.{BorderCells}
 use Rattle.model.specs.declared.Side.{Side}
-use Rattle.model.specs.declared.Side.the-variants.{North, East, South, West}
 use Rattle.model.specs.Cells.{indexOf, cellAt, opposite}
+use Rattle.model.specs.CellSides.{border-low}
 use Rattle.model.specs.Windows.{borderCell, border, borderCells}
 
 pub border-is : (side v : Side) (own facing : List FieldCell) → side ≡ v → own ≡ tabulate (borderCell v) 10 0 → facing ≡ tabulate (borderCell (opposite v)) 10 0
@@ -31,10 +31,4 @@ module _ {cells : BorderCells} (side : Side) (e : cells ≡ borderCells side) (i
   index-is f g = g ∙ f ∙ ap indexOf own-at
 
   pub index-small : {n : ℕ} → n ≡ indexOf (getD (cells .own) i (cellAt 0)) → n < 256
-  index-small {n} f = let at : n ≡ border side i = f ∙ ap indexOf own-at in rw at (low side)
-    where
-      low : (v : Side) → border v i < 256
-      low North = omega arith
-      low East = omega arith
-      low South = omega arith
-      low West = omega arith
+  index-small {n} f = omega (arith, f ∙ ap indexOf own-at, border-low side i h)

@@ -19,7 +19,7 @@ use Rattle.model.specs.Costs.{openAt}
 use Rattle.model.specs.Sectors.{sectors, columnOf, rowOf, sectorNumber, floorNumber}
 use Rattle.model.specs.Directions.{eastward, southward, stepped, landing, onAxis, onFloor}
 use Rattle.model.specs.Nearby.{on-axis}
-use Rattle.model.specs.PlainFloor.{column-is, row-is}
+use Rattle.model.specs.SectorSides.{sector-is}
 use Rattle.model.specs.Scaling.{isWall}
 use Rattle.fields.specs.Bounds.{eastward-small, southward-small, stepped-small}
 use Rattle.sector_cost.specs.Costs.{Small}
@@ -182,8 +182,8 @@ module _ (m : Measures) (s : ℕ) (small : Small m) (on : s < sectors m) where
                 let across = on-axis (columnAt p) (m .columns) (t .0) in
                 let down = on-axis (rowAt p) (m .rows) (t .1) in
                 let sector : sectorNumber m c r ≡ s = omega arith in
-                let column : columnOf m s ≡ c = ap (columnOf m) (sym sector) ∙ column-is m c r (omega arith) in
-                let row : rowOf m s ≡ r = ap (rowOf m) (sym sector) ∙ row-is m c r (omega arith) in
+                let column : columnOf m s ≡ c = ap (columnOf m) (sym sector) ∙ sector-is m c r (omega arith) .0 in
+                let row : rowOf m s ≡ r = ap (rowOf m) (sym sector) ∙ sector-is m c r (omega arith) .1 in
                 let tens : j / 10 ≡ p / 120 % 10 = omega arith in
                 let ones : j % 10 ≡ p % 120 % 10 = omega arith in
                 rw (spot-place, column, row, tens, ones) (place-parts p (across .0) (down .0))

@@ -5,7 +5,7 @@ use Prim.Native.Nat.{ℕ, _+_, _*_, _/_, _%_, _<_}
 use denote.Ref.{now}
 use borrow.Author.Needs.{needs}
 use Rattle.model.specs.Windows.{borderCell}
-use Rattle.model.specs.MovesFewest.{side-low}
+use Rattle.model.specs.Sides.{side-low}
 use Rattle.model.specs.Portals.{portalMark}
 use Rattle.model.specs.LeastPath.{cellRank}
 use Rattle.model.specs.Store.{decode}

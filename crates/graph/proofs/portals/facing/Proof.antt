@@ -7,10 +7,10 @@ use Rattle.model.specs.declared.Measures.{Measures}
 use Rattle.model.specs.declared.Side.{Side}
 use Rattle.model.specs.Cells.{sideNumber, sideAt, opposite}
 use Rattle.model.specs.Sectors.{beyond}
-use Rattle.model.specs.MovesFewest.{side-low}
+use Rattle.model.specs.Sides.{side-low}
+use Rattle.model.specs.SectorSides.{beyond-low}
 use Rattle.model.specs.Portals.{facing}
 use Rattle.graph.specs.EdgeTable.{bare}
-use Rattle.graph.specs.Reading.{beyond-low}
 use Rattle.graph.proofs.portals.facing.Statement.{statement}
 use Rattle.graph.proofs.portals.facing.Tie as tie
 
