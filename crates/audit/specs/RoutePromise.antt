@@ -3,14 +3,16 @@ use Prim.Native.Nat.{ℕ, _+_, _*_, _≤_, _<_}
 use native.Mathlib.Omega.{arith}
 use mathlib.Core.Path.{_≡_, refl, sym, ap, ap₂, _∙_}
 use mathlib.Core.Bool.{Bool, true, false, _&&_, true≢false}
-use mathlib.Core.List.{List, [], _∷_, map}
+use mathlib.Core.Option.{Option, some}
+use mathlib.Core.List.{List, [], _∷_, map, Memᴰ·map, Memᴰ·of-map}
 use lib.Dec.{ltb}
 use lib.ListN.{length, getD}
 use borrow.Author.Tests.{ltb-true, lt-ltb}
 use Rattle.laws.specs.Search.{both, passing-is, passing-has}
 use Rattle.laws.specs.Graph.{Graph}
 use Rattle.laws.specs.Keys.{Journey, arrived, onward, Before, cheaper, shorter, earlier, few-edges}
-use Rattle.laws.specs.Choice.{In, map-is, map-has, Best, nothing, best, winner, winner-in, pairs-is, pairs-has}
+use Rattle.laws.specs.Members.{In, pairs-is, pairs-has}
+use Rattle.laws.specs.Winner.{winner, winner-in}
 use Rattle.laws.specs.Floor.{Inside}
 use Rattle.laws.specs.Detour.{Path, at, along, Lengths, Pair, leg-of, run-of, Chosen, Promise, promise, Winning, chosen}
 use Rattle.model.specs.declared.RouteStep.{RouteStep}
@@ -166,19 +168,19 @@ module _ (h : Hall) (fresh : Fresh h) where
         made : (p : ℕ) × (e : End) × In p (starts h source) × In e (map (endOf h g goal) (ends h goal)) × In z (linkedPair p e)
             → Pair (portals h fresh) lengths source goal (z .start) (end-of z) × (leg-by source z ≡ leg-of (portals h fresh) lengths source (z .start)) × (runOf z ≡ run-of (portals h fresh) lengths goal (z .start) (end-of z))
         made w =
-            let e = map-is (endOf h g goal) (ends h goal) (w .3) in
+            let e = Memᴰ·of-map (endOf h g goal) (ends h goal) (w .3) in
             let s = start-is source (w .0) (w .2) in
             let t = end-is goal (e .0) (e .1) in
             let k = link-is (w .0) (w .1) (w .4) in
-            rw (k .0, e .2)
-            (record { start-is = s .0; end-is = t .0; start-joined = s .1; end-joined = t .1; pair-linked = is-linked (w .0) (e .0) (record { start = s .0; end = t .0; key = rw (e .2) at (k .1) }) }, refl, refl)
+            rw (k .0, ← (e .2))
+            (record { start-is = s .0; end-is = t .0; start-joined = s .1; end-joined = t .1; pair-linked = is-linked (w .0) (e .0) (record { start = s .0; end = t .0; key = rw (← (e .2)) at (k .1) }) }, refl, refl)
 
     candidate-has : (p e : ℕ) → Pair (portals h fresh) lengths source goal p e → (z : choice.Pair) × In z (candidates source goal) × (runOf z ≤ run-of (portals h fresh) lengths goal p e)
     unfolding routePairs runOf endOf lengths costBy
     candidate-has p e w =
         let l = linked-is p e (w .pair-linked) in
         let end : End = record { portal = e; keys = keysTo g e; lastMoves = movesTo (h .scaled) (midCell h e) goal } in
-        (record { start = p; end = end }, pairs-has linkedPair (start-has source p (w .start-is) (w .start-joined)) (map-has (endOf h g goal) (end-has goal e (w .end-is) (w .end-joined))) (link-has p end (l .key)), omega arith)
+        (record { start = p; end = end }, pairs-has linkedPair (start-has source p (w .start-is) (w .start-joined)) (Memᴰ·map (endOf h g goal) (end-has goal e (w .end-is) (w .end-joined))) (link-has p end (l .key)), omega arith)
 
     chosen-route : Chosen (portals h fresh) lengths source goal (Winning (leg-by source) runOf (candidates source goal))
     chosen-route = chosen (portals h fresh) lengths source goal (λ z. z .start) end-of (leg-by source) runOf (candidates source goal) candidate-is candidate-has
@@ -190,12 +192,12 @@ module _ (h : Hall) (fresh : Fresh h) where
       where
         made : (p : ℕ) × (e : End) × In p (starts h source) × In e (map (endOf h g goal) (ends h goal)) × In z (linkedPair p e) → length (stepsOf h goal true (leastPath h g (z .end .keys) (z .start))) ≤ 1001
         made w =
-            let e = map-is (endOf h g goal) (ends h goal) (w .3) in
+            let e = Memᴰ·of-map (endOf h g goal) (ends h goal) (w .3) in
             let s = start-is source (w .0) (w .2) in
             let t = end-is goal (e .0) (e .1) in
             let k = link-is (w .0) (w .1) (w .4) in
-            let few = few-edges (portal-keyed h (fits h fresh)) (keys-settled h (fits h fresh) (e .0) (portal-node (e .0) (t .0))) (nodeRank h) (w .0) (portal-node (w .0) (s .0)) (rw (e .2) at (k .1)) in
-            rw (k .0, e .2) (omega (arith, few .0, few .1, fresh .small, steps-few h goal (leastPath h g (keysTo g (e .0)) (w .0)) .0))
+            let few = few-edges (portal-keyed h (fits h fresh)) (keys-settled h (fits h fresh) (e .0) (portal-node (e .0) (t .0))) (nodeRank h) (w .0) (portal-node (w .0) (s .0)) (rw (← (e .2)) at (k .1)) in
+            rw (k .0, ← (e .2)) (omega (arith, few .0, few .1, fresh .small, steps-few h goal (leastPath h g (keysTo g (e .0)) (w .0)) .0))
 
     -- the route call finds a route of this leg and run
     abbrev pub Gives : ℕ → ℕ → Type 0
@@ -203,14 +205,14 @@ module _ (h : Hall) (fresh : Fresh h) where
 
     -- where source and goal are not joined it gives what the winner has
     module _ (apart : joined (h .scaled) source goal ≡ false) where
-      by-pairs : routeOf h source goal ≡ throughPair h g source goal (winner runOf nothing (candidates source goal))
+      by-pairs : routeOf h source goal ≡ throughPair h g source goal (winner runOf Option.none (candidates source goal))
       unfolding routeOf throughPortals chosenPair
       by-pairs = rw apart
 
-      from-winner : (b : Best choice.Pair) → winner runOf nothing (candidates source goal) ≡ b → (steps : List RouteStep) (leg run : ℕ) → throughPair h g source goal b ≡ route steps leg run → Winning (leg-by source) runOf (candidates source goal) leg run
+      from-winner : (b : Option choice.Pair) → winner runOf Option.none (candidates source goal) ≡ b → (steps : List RouteStep) (leg run : ℕ) → throughPair h g source goal b ≡ route steps leg run → Winning (leg-by source) runOf (candidates source goal) leg run
       unfolding throughPair leg-by
-      from-winner nothing q steps leg run e = absurd (none-found e)
-      from-winner (best z) q steps leg run e = let x = same-found e in record { one = z; wins = q; leg-is = sym (x .1); run-is = sym (x .2) }
+      from-winner Option.none q steps leg run e = absurd (none-found e)
+      from-winner (some z) q steps leg run e = let x = same-found e in record { one = z; wins = q; leg-is = sym (x .1); run-is = sym (x .2) }
 
       to-winner : (leg run : ℕ) → Winning (leg-by source) runOf (candidates source goal) leg run → Gives leg run
       unfolding throughPair leg-by
@@ -221,7 +223,7 @@ module _ (h : Hall) (fresh : Fresh h) where
       given-chosen : Chosen (portals h fresh) lengths source goal Gives
       given-chosen = record {
         some = λ p e w. let c = chosen-route .some p e w in (c .0, c .1, to-winner (c .0) (c .1) (c .2));
-        is = λ leg run a. chosen-route .is leg run (from-winner (winner runOf nothing (candidates source goal)) refl (a .0) leg run (sym by-pairs ∙ a .1));
+        is = λ leg run a. chosen-route .is leg run (from-winner (winner runOf Option.none (candidates source goal)) refl (a .0) leg run (sym by-pairs ∙ a .1));
       }
 
       -- THE ROUTE KEEPS THE PROMISE, with D = 5
@@ -234,8 +236,8 @@ module _ (h : Hall) (fresh : Fresh h) where
       -- ROOM FOR 1,001 STEPS: a least path passes each of at most 2,000 portals once
       pub route-room : (steps : List RouteStep) (leg run : ℕ) → routeOf h source goal ≡ route steps leg run → length steps ≤ 1001
       unfolding throughPair leastPath
-      route-room steps leg run e = go (winner runOf nothing (candidates source goal)) refl (sym by-pairs ∙ e)
+      route-room steps leg run e = go (winner runOf Option.none (candidates source goal)) refl (sym by-pairs ∙ e)
         where
-          go : (b : Best choice.Pair) → winner runOf nothing (candidates source goal) ≡ b → throughPair h g source goal b ≡ route steps leg run → length steps ≤ 1001
-          go nothing q r = absurd (none-found r)
-          go (best z) q r = rw (← (same-found r .0)) (path-room z (winner-in runOf q))
+          go : (b : Option choice.Pair) → winner runOf Option.none (candidates source goal) ≡ b → throughPair h g source goal b ≡ route steps leg run → length steps ≤ 1001
+          go Option.none q r = absurd (none-found r)
+          go (some z) q r = rw (← (same-found r .0)) (path-room z (winner-in runOf q))

@@ -7,9 +7,11 @@ use native.Mathlib.Omega.{arith}
 use mathlib.Core.Path.{_≡_, refl, _∙_}
 use mathlib.Core.Logic.{_⊎_, inl, inr, _≢_, _↔_}
 use mathlib.Core.Bool.{Bool, true}
+use mathlib.Core.Option.{none, some}
 use mathlib.Core.List.{List}
 use Rattle.laws.specs.Floor.{Floor, Walk, stand, step, cross, Inside, move, inside-join, inside-walk, walk-inside, inside-alone, walk-starts}
-use Rattle.laws.specs.Choice.{In, nothing, best, winner, winner-in, winner-least, winner-some}
+use Rattle.laws.specs.Members.{In}
+use Rattle.laws.specs.Winner.{winner, winner-in, winner-least, winner-some}
 
 -- What the move from x to y over a border has beside it: a portal on the near side and one on the far side that face each other. At most D moves inside the sector lead from x to the near one's crossing cell, and at most D from the far one's to y.
 pub record Gate (f : Floor) (D : ℕ) (Portal : ℕ → Type 0) (mid : ℕ → ℕ) (Faces : ℕ → ℕ → Type 0) (x y : ℕ) : Type 0 where
@@ -267,7 +269,7 @@ module _ {f : Floor} {D : ℕ} (g : Portals f D) (c : Lengths g) where
 -- The winner by run, of a list of candidates, each with a leg and a run.
 pub record Winning {A : Type 0} (leg run : A → ℕ) (cs : List A) (l r : ℕ) : Type 0 where
   pub one : A
-  pub wins : winner run nothing cs ≡ best one
+  pub wins : winner run none cs ≡ some one
   pub leg-is : l ≡ leg one
   pub run-is : r ≡ run one
 

@@ -1,7 +1,7 @@
 -- Facts that speak of no hall: folds over a count, searches, regions of a list, tables, graphs with their walks and least costs, and walks over a floor against paths through portals.
 pub mod Fold
 pub mod Fill
-pub mod Choice
+pub mod Members
 pub mod Search
 pub mod Hits
 pub mod Spans
@@ -10,6 +10,8 @@ pub mod Region
 pub mod Table
 pub mod Each
 pub mod Graph
+pub mod First
+pub mod Winner
 pub mod LeastCosts
 pub mod Offers
 pub mod Waiting

@@ -2,7 +2,7 @@
 use mathlib.Core.Path.{_≡_, refl, sym, ap, _∙_}
 use mathlib.Core.Logic.{_⊎_, inl, inr}
 use mathlib.Core.Bool.{Bool, true, false, _&&_}
-use mathlib.Core.List.{List, [], _∷_}
+use mathlib.Core.List.{List, [], _∷_, List·Memᴰ·head, List·Memᴰ·tail, List·Memᴰ·cases-cons}
 use Prim.Native.Nat.{ℕ, zero, suc, _+_, _<_, _≤_}
 use native.Mathlib.Nat.{not-suc-le-zero, le-of-suc-le-suc, le-antisymm}
 use native.Mathlib.Decide.{ℕ-discrete}
@@ -11,7 +11,7 @@ use lib.Dec.{ltb}
 use borrow.Author.Count.{below-more}
 use borrow.Author.Tests.{lt-ltb, le-ltb, ltb-false}
 use Rattle.laws.specs.Fold.{pick, pick-keeps, bit, false-ne-true}
-use Rattle.laws.specs.Choice.{In, here, later, in-cons}
+use Rattle.laws.specs.Members.{In}
 
 -- how many of 0, 1, .. come before the first that passes; n if none below n does
 unfoldable pub first : (ℕ → Bool) → ℕ → ℕ
@@ -168,7 +168,7 @@ unfolding passing
 passing-is p (suc n) a {v} i = go (p a) refl i (λ j. passing-is p n (suc a) j)
   where
     go : (t : Bool) → p a ≡ t → In v (pick t (a ∷ passing p n (suc a)) (passing p n (suc a))) → (In v (passing p n (suc a)) → (suc a ≤ v) × (v < suc a + n) × (p v ≡ true)) → (a ≤ v) × (v < a + suc n) × (p v ≡ true)
-    go true e j more = one (in-cons j)
+    go true e j more = one (List·Memᴰ·cases-cons j)
       where
         one : (v ≡ a) ⊎ In v (passing p n (suc a)) → (a ≤ v) × (v < a + suc n) × (p v ≡ true)
         one (inl q) = (omega arith, omega arith, rw q e)
@@ -181,9 +181,9 @@ passing-has p zero a v l k o = absurd (omega arith)
 passing-has p (suc n) a v l k o = go (ℕ-discrete v a) (p a) refl (λ m. passing-has p n (suc a) v m (omega arith) o)
   where
     go : Dec (v ≡ a) → (t : Bool) → p a ≡ t → (suc a ≤ v → In v (passing p n (suc a))) → In v (pick t (a ∷ passing p n (suc a)) (passing p n (suc a)))
-    go (yes e) true q more = rw e here
+    go (yes e) true q more = List·Memᴰ·head e
     go (yes e) false q more = absurd (false-ne-true (sym q ∙ ap p (sym e) ∙ o))
-    go (no e) true q more = later (more (omega arith))
+    go (no e) true q more = List·Memᴰ·tail (more (omega arith))
     go (no e) false q more = more (omega arith)
 
 -- ---- for loops

@@ -1,27 +1,18 @@
--- The lists that a rule gives for the numbers from a on, one after another: pairs of passing numbers as such a row, and its leading member.
+-- The lists that a rule gives for the numbers from a on, one after another, and pairs of passing numbers as such a row.
 use Prim.Native.Nat.{ℕ, zero, suc, _+_, _-_, _*_, _/_, _%_, _≤_, _<_}
 use native.Mathlib.Nat.{add-zero, zero-add, add-suc, suc-add}
 use native.Mathlib.Omega.{arith}
 use mathlib.Core.Path.{_≡_, refl, sym, ap, _∙_}
-use mathlib.Core.Logic.{_⊎_, inl, inr}
 use mathlib.Core.Bool.{Bool, true, false}
-use mathlib.Core.List.{List, [], _∷_, _++_, map, append-assoc, append-nil}
+use mathlib.Core.List.{List, [], _∷_, _++_, map, flatMap, append-assoc, append-nil}
 use Rattle.laws.specs.Fold.{pick}
 use Rattle.laws.specs.Search.{passing}
-use Rattle.laws.specs.Choice.{In, in-either, each, pairs, Leads}
+use Rattle.laws.specs.Members.{pairs}
 
 -- n lists from g a on
 unfoldable pub spans : {A : Type 0} → (ℕ → List A) → ℕ → ℕ → List A
 spans g zero a = []
 spans g (suc n) a = g a ++ spans g n (suc a)
-
-pub spans-is : {A : Type 0} (g : ℕ → List A) (n a : ℕ) {x : A} → In x (spans g n a) → (k : ℕ) × (a ≤ k) × (k < a + n) × In x (g k)
-unfolding spans
-spans-is {A} g (suc n) a {x} i = go (in-either (g a) (spans g n (suc a)) i) (λ j. spans-is g n (suc a) j)
-  where
-    go : In x (g a) ⊎ In x (spans g n (suc a)) → (In x (spans g n (suc a)) → (k : ℕ) × (suc a ≤ k) × (k < suc a + n) × In x (g k)) → (k : ℕ) × (a ≤ k) × (k < a + suc n) × In x (g k)
-    go (inl j) rest = (a, omega arith, omega arith, j)
-    go (inr j) rest = let r = rest j in (r .0, omega (arith, r .1), omega (arith, r .2), r .3)
 
 -- two rules that give the same lists, each from its own number on
 pub spans-same : {A : Type 0} (f g : ℕ → List A) (n a b : ℕ) → ((k : ℕ) → k < n → f (a + k) ≡ g (b + k)) → spans f n a ≡ spans g n b
@@ -44,24 +35,24 @@ spans-empty g zero a none = refl
 spans-empty g (suc n) a none = rw (none a) (spans-empty g n (suc a) none)
 
 -- ---- passing numbers
-pub each-passing : {A : Type 0} (f : ℕ → List A) (p : ℕ → Bool) (n a : ℕ) → each f (passing p n a) ≡ spans (λ v. pick (p v) (f v) []) n a
-unfolding each passing spans
-each-passing f p zero a = refl
-each-passing {A} f p (suc n) a = go (p a) ∙ ap (λ (t : List A). pick (p a) (f a) [] ++ t) (each-passing f p n (suc a))
+pub passing-lists : {A : Type 0} (f : ℕ → List A) (p : ℕ → Bool) (n a : ℕ) → flatMap f (passing p n a) ≡ spans (λ v. pick (p v) (f v) []) n a
+unfolding flatMap passing spans
+passing-lists f p zero a = refl
+passing-lists {A} f p (suc n) a = go (p a) ∙ ap (λ (t : List A). pick (p a) (f a) [] ++ t) (passing-lists f p n (suc a))
   where
-    go : (t : Bool) → each f (pick t (a ∷ passing p n (suc a)) (passing p n (suc a))) ≡ pick t (f a) [] ++ each f (passing p n (suc a))
+    go : (t : Bool) → flatMap f (pick t (a ∷ passing p n (suc a)) (passing p n (suc a))) ≡ pick t (f a) [] ++ flatMap f (passing p n (suc a))
     go true = refl
     go false = refl
 
-each-map : {A B C : Type 0} (f : B → List C) (g : A → B) (xs : List A) → each f (map g xs) ≡ each (λ x. f (g x)) xs
-unfolding each
-each-map f g [] = refl
-each-map {C = C} f g (x ∷ xs) = ap (λ (t : List C). f (g x) ++ t) (each-map f g xs)
+lists-map : {A B C : Type 0} (f : B → List C) (g : A → B) (xs : List A) → flatMap f (map g xs) ≡ flatMap (λ x. f (g x)) xs
+unfolding flatMap
+lists-map f g [] = refl
+lists-map {C = C} f g (x ∷ xs) = ap (λ (t : List C). f (g x) ++ t) (lists-map f g xs)
 
-each-same : {A B : Type 0} (f g : A → List B) (xs : List A) → ((x : A) → f x ≡ g x) → each f xs ≡ each g xs
-unfolding each
-each-same f g [] same = refl
-each-same {B = B} f g (x ∷ xs) same = rw (same x) (ap (λ (t : List B). g x ++ t) (each-same f g xs same))
+lists-same : {A B : Type 0} (f g : A → List B) (xs : List A) → ((x : A) → f x ≡ g x) → flatMap f xs ≡ flatMap g xs
+unfolding flatMap
+lists-same f g [] same = refl
+lists-same {B = B} f g (x ∷ xs) same = rw (same x) (ap (λ (t : List B). g x ++ t) (lists-same f g xs same))
 
 -- what the pair of a + k / 20 and b + k % 20 gives, if both pass
 abbrev pub cell : {A B : Type 0} → (ℕ → B → List A) → (ℕ → B) → (ℕ → Bool) → (ℕ → Bool) → ℕ → ℕ → ℕ → List A
@@ -94,25 +85,4 @@ module _ {A B : Type 0} (f : ℕ → B → List A) (g : ℕ → B) (p q : ℕ �
 
   pub pairs-in-row : (a b : ℕ) → pairs f (passing p 20 a) (map g (passing q 20 b)) ≡ spans (cell f g p q a b) 400 0
   unfolding pairs
-  pairs-in-row a b = each-same (λ x. each (f x) (map g (passing q 20 b))) (inner b) (passing p 20 a) (λ x. each-map (f x) g (passing q 20 b) ∙ each-passing (λ w. f x (g w)) q 20 b) ∙ each-passing (inner b) p 20 a ∙ rows 20 a b
-
--- ---- the leading member of a row, by what each place weighs
-module _ {A : Type 0} (g : ℕ → List A) (n : ℕ) where
-  pub spans-none : ((k : ℕ) → k < n → g k ≡ []) → spans g n 0 ≡ []
-  spans-none none = spans-same g (λ k. []) n 0 0 (λ k l. rw (zero-add k) (none k l)) ∙ spans-empty (λ k. []) n 0 (λ k. refl)
-
-  spans-split : (r : ℕ) → r < n → {z : A} → g r ≡ z ∷ [] → spans g n 0 ≡ spans g r 0 ++ (z ∷ spans g (n - suc r) (suc r))
-  unfolding spans
-  spans-split r l {z} e =
-      let sum : n ≡ r + suc (n - suc r) = omega arith in
-      ap (λ (k : ℕ). spans g k 0) sum ∙ spans-join g r (suc (n - suc r)) 0 ∙ rw (zero-add r) (ap (λ (t : List A). spans g r 0 ++ (t ++ spans g (n - suc r) (suc r))) e)
-
-  pub spans-leads : (w : A → ℕ) (weights : ℕ → ℕ) → ((k : ℕ) → k < n → (x : A) → In x (g k) → weights k ≡ w x)
-      → (r : ℕ) → r < n → {z : A} → g r ≡ z ∷ [] → ((k : ℕ) → k < r → w z < weights k) → ((k : ℕ) → k < n → w z ≤ weights k) → Leads w z (spans g n 0)
-  spans-leads w weights weighs r l {z} e more least = record {
-    before = spans g r 0;
-    after = spans g (n - suc r) (suc r);
-    split = spans-split r l e;
-    more = λ x i. let s = spans-is g r 0 i in omega (arith, more (s .0) (omega (arith, s .2)), weighs (s .0) (omega (arith, s .2)) x (s .3));
-    least = λ x i. let s = spans-is g (n - suc r) (suc r) i in let k : s .0 < n = omega (arith, s .1, s .2) in omega (arith, least (s .0) k, weighs (s .0) k x (s .3));
-  }
+  pairs-in-row a b = lists-same (λ x. flatMap (f x) (map g (passing q 20 b))) (inner b) (passing p 20 a) (λ x. lists-map (f x) g (passing q 20 b) ∙ passing-lists (λ w. f x (g w)) q 20 b) ∙ passing-lists (inner b) p 20 a ∙ rows 20 a b

@@ -1,4 +1,5 @@
 -- The word that opens every definition: a theorem under `unfolding computing` is proved by computation.
+use mathlib.Core.List.{flatMap}
 use lib.Ieee.{mul, div, lt, le, ofBits}
 use Rattle.laws.specs.Fold.{run, bit}
 use Rattle.laws.specs.Search.{first, any, passing}
@@ -7,7 +8,8 @@ use Rattle.laws.specs.Region.{region, within}
 use Rattle.laws.specs.Table.{tabulate}
 use Rattle.laws.specs.LeastCosts.{offers, relaxed, swept, total, sweeps, outset, least-costs}
 use Rattle.laws.specs.FirstPath.{tight, better, closer, next, path}
-use Rattle.laws.specs.Choice.{beat, winner, each, pairs}
+use Rattle.laws.specs.Members.{pairs}
+use Rattle.laws.specs.Winner.{beat, winner}
 use Rattle.model.specs.Cells.{beside}
 use Rattle.model.specs.Costs.{openAt}
 use Rattle.model.specs.Sectors.{across, down, beyond, hasBeyond}
@@ -28,5 +30,5 @@ use Rattle.model.specs.Calls.{badSectors, badScale, orElse, ifAccepted, 
 use Rattle.model.specs.Listing.{digits, windowText, stepText, stepsText, answerText, pairText, pairLines, fileSize, hallLines, fileLines, hallroute}
 
 unfoldable pub computing : Unit {0}
-unfolding mul div lt le ofBits run bit first any passing refuse region within tabulate offers relaxed swept total sweeps outset least-costs tight better closer next path beat winner each pairs beside openAt across down beyond hasBeyond flatSteps stepsIn landing onFloor cutDown roundUp isWall passes blockStep blockPassed walk scaleCell scaleSector scaleFloor move moves movesTo joined borderCells openPlace bits markOf marksOf isOpen begins begun windowCount firstPlace lastPlace crossing windowAt sideWindows isPortal midpoint midCell facing headOf outerEdge innerEdge edgeAt edgesFrom edgesOf edges portalGraph nearby isThere forNearby resetSector rescaled isNearby remarked changed exceedsAt exceeds nodeRank keysTo leastPath starts ends endOf linkedPair runOf routePairs chosenPair stepAt stepsOf throughPair throughPortals oneStep routeOf fed accountAfter accountCosts crossings u16At marksIn decode markBytes encode written putEntry baseIn badSectors badScale orElse ifAccepted measured valueNumber measureNumber planNumber planAnswer entryOff readNumber readAnswer readInto buildNumber built buildInto badMark checkNumber alterNumber changeNumber changeInto stepList foundNumber routeNumber routed routeAnswer routeSteps routeFlat windowsFrom flatWindows windowsNumber listed windowsAnswer windowsFlat storeAfterCall storeAfter digits windowText stepText stepsText answerText pairText pairLines fileSize hallLines fileLines hallroute
+unfolding mul div lt le ofBits run bit first any passing refuse region within tabulate offers relaxed swept total sweeps outset least-costs tight better closer next path flatMap pairs beat winner beside openAt across down beyond hasBeyond flatSteps stepsIn landing onFloor cutDown roundUp isWall passes blockStep blockPassed walk scaleCell scaleSector scaleFloor move moves movesTo joined borderCells openPlace bits markOf marksOf isOpen begins begun windowCount firstPlace lastPlace crossing windowAt sideWindows isPortal midpoint midCell facing headOf outerEdge innerEdge edgeAt edgesFrom edgesOf edges portalGraph nearby isThere forNearby resetSector rescaled isNearby remarked changed exceedsAt exceeds nodeRank keysTo leastPath starts ends endOf linkedPair runOf routePairs chosenPair stepAt stepsOf throughPair throughPortals oneStep routeOf fed accountAfter accountCosts crossings u16At marksIn decode markBytes encode written putEntry baseIn badSectors badScale orElse ifAccepted measured valueNumber measureNumber planNumber planAnswer entryOff readNumber readAnswer readInto buildNumber built buildInto badMark checkNumber alterNumber changeNumber changeInto stepList foundNumber routeNumber routed routeAnswer routeSteps routeFlat windowsFrom flatWindows windowsNumber listed windowsAnswer windowsFlat storeAfterCall storeAfter digits windowText stepText stepsText answerText pairText pairLines fileSize hallLines fileLines hallroute
 computing = tt

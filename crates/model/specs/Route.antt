@@ -1,13 +1,15 @@
 -- 01, "A route".
 use Prim.Native.Nat.{ℕ, _+_, _*_}
 use mathlib.Core.Bool.{Bool, true, false, _&&_}
+use mathlib.Core.Option.{Option, some}
 use mathlib.Core.List.{List, [], _∷_, map}
 use lib.Dec.{ltb}
 use lib.ListN.{getD}
 use Rattle.laws.specs.Fold.{pick}
 use Rattle.laws.specs.Search.{passing}
 use Rattle.laws.specs.Graph.{Graph}
-use Rattle.laws.specs.Choice.{Best, nothing, best, winner, pairs}
+use Rattle.laws.specs.Members.{pairs}
+use Rattle.laws.specs.Winner.{winner}
 use Rattle.model.specs.declared.RouteStep.{RouteStep}
 use Rattle.model.specs.Sectors.{sectorOf, placeOf, sectorAt}
 use Rattle.model.specs.Steps.{windowStep, lastStep}
@@ -50,8 +52,8 @@ unfoldable pub routePairs : Hall → Graph → ℕ → ℕ → List Pair
 routePairs h g source goal = pairs linkedPair (starts h source) (map (endOf h g goal) (ends h goal))
 
 -- "a later pair wins only if its run is less"
-unfoldable pub chosenPair : Hall → Graph → ℕ → ℕ → Best Pair
-chosenPair h g source goal = winner runOf nothing (routePairs h g source goal)
+unfoldable pub chosenPair : Hall → Graph → ℕ → ℕ → Option Pair
+chosenPair h g source goal = winner runOf Option.none (routePairs h g source goal)
 
 -- the step at a portal: its midpoint and its window
 unfoldable pub stepAt : Hall → ℕ → RouteStep
@@ -70,9 +72,9 @@ pub data Found : Type 0 where
   none : Found
 
 -- "Leg = moves from source to the start midpoint, not counted in the choice"; "No pair: none"
-unfoldable pub throughPair : Hall → Graph → ℕ → ℕ → Best Pair → Found
-throughPair h g source goal nothing = none
-throughPair h g source goal (best z) =
+unfoldable pub throughPair : Hall → Graph → ℕ → ℕ → Option Pair → Found
+throughPair h g source goal Option.none = none
+throughPair h g source goal (some z) =
     route (stepsOf h goal true (leastPath h g (z .end .keys) (z .start))) (movesTo (h .scaled) source (midCell h (z .start))) (runOf z)
 
 unfoldable pub throughPortals : Hall → Graph → ℕ → ℕ → Found

@@ -3,7 +3,8 @@ use Prim.Native.Nat.{ℕ, _*_, _≤_, _<_}
 use native.Mathlib.Omega.{arith}
 use mathlib.Core.Path.{_≡_, refl}
 use mathlib.Core.Bool.{Bool, true, false, _&&_}
-use mathlib.Core.List.{List, map}
+use mathlib.Core.Option.{Option, none, some}
+use mathlib.Core.List.{List, map, Memᴰ·of-map}
 use lib.Dec.{ltb}
 use lib.ListN.{length, getD}
 use borrow.Author.Tests.{ltb-true}
@@ -11,7 +12,8 @@ use Rattle.laws.specs.Fold.{pick}
 use Rattle.laws.specs.Search.{both, passing-is}
 use Rattle.laws.specs.Graph.{Graph}
 use Rattle.laws.specs.Keys.{few-edges}
-use Rattle.laws.specs.Choice.{In, map-is, Best, nothing, best, winner-in, pairs-is}
+use Rattle.laws.specs.Members.{In, pairs-is}
+use Rattle.laws.specs.Winner.{winner-in}
 use Rattle.model.specs.Sectors.{sectors, sectorOf}
 use Rattle.model.specs.Moves.{joined}
 use Rattle.model.specs.Windows.{windowCount}
@@ -56,14 +58,14 @@ module _ (h : Hall) (fits : Fits h) where
   unfolding routePairs endOf
   pair-few source goal {z} i =
       let w = pairs-is linkedPair (starts h source) (map (endOf h g goal) (ends h goal)) i in
-      let e = map-is (endOf h g goal) (ends h goal) (w .3) in
+      let e = Memᴰ·of-map (endOf h g goal) (ends h goal) (w .3) in
       let k = link-is (w .0) (w .1) (w .4) in
-      rw (k .0, e .2) (path-few goal (w .0) (e .0) (start-node source (w .2)) (end-node goal (e .1)) (rw (e .2) at (k .1)))
+      rw (k .0, ← (e .2)) (path-few goal (w .0) (e .0) (start-node source (w .2)) (end-node goal (e .1)) (rw (← (e .2)) at (k .1)))
 
-  through-few : (source goal : ℕ) (b : Best Pair) → chosenPair h g source goal ≡ b → length (stepList (throughPair h g source goal b)) ≤ 1001
+  through-few : (source goal : ℕ) (b : Option Pair) → chosenPair h g source goal ≡ b → length (stepList (throughPair h g source goal b)) ≤ 1001
   unfolding chosenPair throughPair stepList
-  through-few source goal nothing q = omega arith
-  through-few source goal (best z) q = pair-few source goal (winner-in runOf q)
+  through-few source goal none q = omega arith
+  through-few source goal (some z) q = pair-few source goal (winner-in runOf q)
 
   route-few : (source goal : ℕ) → length (stepList (routeOf h source goal)) ≤ 1001
   unfolding routeOf oneStep throughPortals stepList

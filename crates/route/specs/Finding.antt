@@ -3,6 +3,7 @@ use Prim.Native.Nat.{ℕ, _+_, _*_, _/_, _%_, _≤_, _<_}
 use native.Mathlib.Omega.{arith}
 use mathlib.Core.Path.{_≡_, refl, sym, ap, _∙_}
 use mathlib.Core.Bool.{Bool, true, false}
+use mathlib.Core.Option.{Option}
 use mathlib.Core.List.{List, [], _∷_, _++_}
 use lib.Dec.{ltb}
 use lib.ListN.{length, getD, take, drop, length-append, length-drop}
@@ -10,7 +11,6 @@ use lib.Seq.{take-at}
 use borrow.Author.Tests.{lt-ltb, le-ltb}
 use Rattle.laws.specs.Fold.{pick}
 use Rattle.laws.specs.Ladder.{refuse}
-use Rattle.laws.specs.Choice.{nothing}
 use Rattle.model.specs.declared.Measures.{Measures}
 use Rattle.model.specs.declared.RouteStep.{RouteStep}
 use Rattle.model.specs.declared.Routed.{Routed}
@@ -65,7 +65,7 @@ none-is : (room : ℕ) (list : List ℕ) {found : Found} → found ≡ none → 
 unfolding foundAnswer foundInto stepList refuse routed ifAccepted flatSteps
 none-is room list e = rw (e, le-ltb room 0 (omega arith), le-ltb (length list / 6) 0 (omega arith)) (refl, refl)
 
-pub none-found : (h : Hall) (source goal room : ℕ) (list : List ℕ) → chosenPair h (portalGraph h) source goal ≡ nothing
+pub none-found : (h : Hall) (source goal room : ℕ) (list : List ℕ) → chosenPair h (portalGraph h) source goal ≡ Option.none
     → (routed-as.NoRoute ≡ foundAnswer room (throughPortals h (portalGraph h) source goal)) × (list ≡ foundInto (throughPortals h (portalGraph h) source goal) list)
 unfolding throughPortals throughPair
 none-found h source goal room list e = none-is room list (ap (throughPair h (portalGraph h) source goal) e)
@@ -88,10 +88,10 @@ module _ (h : Hall) where
   module _ (fits : Fits h) (source goal : ℕ) {j : ℕ} (c : Chosen h source goal j) where
     pub pair-found : throughPortals h (portalGraph h) source goal ≡ pairRoute goal (sectorOf source * 20 + j / 20) (sectorOf goal * 20 + j % 20) (legAt h source goal j) (lastAt h source goal j)
     unfolding throughPortals throughPair endOf runOf
-    pair-found = rw (c .wins, leg-moves h fits source (j / 20) (omega (arith, c .low)) (c .near-start), last-moves h fits goal (j % 20) (omega arith) (c .near-end))
+    pair-found = rw (c .wins, leg-moves h fits source (j / 20) (omega (arith, c .low)) (c .joined-by .near-start), last-moves h fits goal (j % 20) (omega arith) (c .joined-by .near-end))
 
     pub pair-paired : sectorOf goal < sectors (h .measures) → Paired (sectorOf source * 20 + j / 20) (sectorOf goal * 20 + j % 20)
-    pair-paired l = record { start = near-portal h fits source (j / 20) (omega (arith, c .low)) (c .near-start); end = omega arith; linked = c .linked }
+    pair-paired l = record { start = near-portal h fits source (j / 20) (omega (arith, c .low)) (c .joined-by .near-start); end = omega arith; linked = c .joined-by .linked }
 
   -- the portals that were written down
   module _ (fits : Fits h) {p e n : ℕ} (z : Paired p e) (keys nodes old : List ℕ) (is : keys ≡ keysTo (portalGraph h) e) (many : n ≡ length (leastPath h (portalGraph h) keys p)) (wrote : nodes ≡ leastPath h (portalGraph h) keys p ++ drop n old) where

@@ -2,79 +2,25 @@
 use Prim.Native.Nat.{ℕ, _+_, _*_, _/_, _%_, _≤_, _<_}
 use native.Mathlib.Omega.{arith}
 use native.Mathlib.Decide.{ℕ-discrete}
-use mathlib.Core.Path.{_≡_, refl, sym, ap, _∙_}
+use mathlib.Core.Path.{_≡_, refl, ap, _∙_}
 use mathlib.Core.Logic.{_⊎_, inl, inr}
-use mathlib.Core.Bool.{Bool, true, false, _&&_}
 use mathlib.Core.List.{List}
-use lib.Dec.{ltb}
 use lib.ListN.{getD}
-use borrow.Author.Count.{below-more}
-use borrow.Author.Tests.{ltb-true, lt-ltb}
-use Rattle.laws.specs.Fold.{pick}
-use Rattle.laws.specs.Table.{tabulate}
+use borrow.Author.Tests.{lt-ltb}
 use Rattle.laws.specs.Graph.{Sound, BothWays, below-or}
+use Rattle.laws.specs.First.{First, Foremost, foremost-none, foremost-some, none-foremost, foremost-is}
 use Rattle.model.specs.declared.Measures.{Measures}
 use Rattle.model.specs.Sectors.{sectors}
 use Rattle.model.specs.Moves.{apart}
-use Rattle.model.specs.LeastPath.{unlinked, keysTo, costOfKey}
+use Rattle.model.specs.LeastPath.{unlinked, keysTo}
 use Rattle.graph.specs.EdgeTable.{tableGraph}
 use Rattle.graph.specs.Searching.{keys-back}
 use Rattle.graph.specs.Ends.{Nearest}
-use Rattle.route.specs.Choosing.{runFor, runIn, some-run, nth, nth-is, Foremost, no-pair, pair}
-
--- of the first n of twenty places with runs f, the first of the least: none, or place r with run `least`
-pub data First (f : ℕ → ℕ) (n least r : ℕ) : Type 0 where
-  no-place : r ≡ 20 → least ≡ unlinked → ((j : ℕ) → j < n → unlinked ≤ f j) → First f n least r
-  place : r < n → least ≡ f r → f r < unlinked → ((j : ℕ) → j < r → f r < f j) → ((j : ℕ) → j < n → f r ≤ f j) → First f n least r
-
-pub first-none : (f : ℕ → ℕ) → First f 0 unlinked 20
-first-none f = no-place refl refl (λ j l. absurd (omega arith))
-
-pub first-low : {f : ℕ → ℕ} {least r : ℕ} → First f 20 least r → r ≤ 20
-first-low (no-place e is all) = omega arith
-first-low (place k is low before all) = omega arith
-
-module _ {f : ℕ → ℕ} {n least r run : ℕ} (so-far : First f n least r) (is : run ≡ f n) where
-  -- place n has a lesser run
-  pub first-take : run < least → First f (n + 1) run n
-  first-take less = go so-far
-    where
-      go : First f n least r → First f (n + 1) run n
-      go (no-place e q all) = place (omega arith) is (omega arith) (λ j l. omega (arith, all j l)) (below-more (λ (j : ℕ). f n ≤ f j) n (λ j l. omega (arith, all j l)) (omega arith))
-      go (place k q low before all) = place (omega arith) is (omega arith) (λ j l. omega (arith, all j l)) (below-more (λ (j : ℕ). f n ≤ f j) n (λ j l. omega (arith, all j l)) (omega arith))
-
-  -- or it has none
-  pub first-skip : least ≤ run → First f (n + 1) least r
-  first-skip more = go so-far
-    where
-      go : First f n least r → First f (n + 1) least r
-      go (no-place e q all) = no-place e q (below-more (λ (j : ℕ). unlinked ≤ f j) n all (omega arith))
-      go (place k q low before all) = place (omega arith) q low before (below-more (λ (j : ℕ). f r ≤ f j) n all (omega arith))
+use Rattle.route.specs.Choosing.{runFor, some-run, joins, pairRun}
 
 -- the runs of twenty places: keys from number p on, legs and last moves by place
 abbrev pub placeRun : List ℕ → ℕ → List ℕ → List ℕ → ℕ → ℕ
 placeRun keys p legs lasts c = runFor (getD keys (p + c) 0) (getD legs c 0) (getD lasts c 0)
-
--- ---- a run below `unlinked`
-pub record Joins (key leg last : ℕ) : Type 0 where
-  pub near-start : leg < apart
-  pub near-end : last < apart
-  pub linked : key < unlinked
-  pub run : runFor key leg last ≡ costOfKey key + last
-
-joins : (key leg last : ℕ) → runFor key leg last < unlinked → Joins key leg last
-unfolding runFor
-joins key leg last low = go (ltb leg apart) (ltb last apart) (ltb key unlinked) refl refl refl low
-  where
-    go : (a b c : Bool) → ltb leg apart ≡ a → ltb last apart ≡ b → ltb key unlinked ≡ c → pick (a && (b && c)) (costOfKey key + last) unlinked < unlinked → Joins key leg last
-    go true true true e f g l =
-        let x = ltb-true leg apart e in
-        let y = ltb-true last apart f in
-        let z = ltb-true key unlinked g in
-        record { near-start = x; near-end = y; linked = z; run = sym (some-run key leg last x y z) }
-    go false b c e f g l = absurd (omega arith)
-    go true false c e f g l = absurd (omega arith)
-    go true true false e f g l = absurd (omega arith)
 
 -- a run does not count the leg
 same-leg : (key leg other last : ℕ) → leg < apart → other < apart → runFor key leg last ≡ runFor key other last
@@ -90,8 +36,8 @@ module _ (m : Measures) (table : List ℕ) (sound : Sound (tableGraph m table)) 
   abbrev runTo : ℕ → ℕ → ℕ
   runTo c d = runFor (keyFor c d) (getD legs c 0) (getD lasts d 0)
 
-  abbrev runs : List ℕ
-  runs = tabulate (runIn (tableGraph m table) legs lasts p q) 400 0
+  abbrev runs : ℕ → ℕ
+  runs = pairRun (tableGraph m table) legs lasts p q
 
   module _ (keys : List ℕ) (nearest : Nearest (tableGraph m table) q lasts keys) where
     abbrev startCost : ℕ → ℕ
@@ -114,36 +60,20 @@ module _ (m : Measures) (table : List ℕ) (sound : Sound (tableGraph m table)) 
         (j .near-start, (o .0, o .1, omega (arith, run, o .2, o .3, j .linked), omega (arith, run, o .3, j .run)))
 
     -- no start: no pair
-    pub no-start : {least r : ℕ} → First startCost 20 least r → 20 ≤ r → Foremost runs 400 400
-    no-start (place k is low before all) past = absurd (omega arith)
-    no-start (no-place e is all) past = no-pair refl (λ j l. go j l (below-or (runTo (j / 20) (j % 20)) unlinked))
+    pub no-start : {r : ℕ} → Foremost startCost unlinked 20 r → 20 ≤ r → Foremost runs unlinked 400 400
+    no-start start past = foremost-none refl (λ j l. go j l (below-or (runs j) unlinked))
       where
-        go : (j : ℕ) → j < 400 → (runTo (j / 20) (j % 20) < unlinked) ⊎ (unlinked ≤ runTo (j / 20) (j % 20)) → unlinked ≤ nth runs j
-        go j l (inl low) = absurd (omega (arith, all (j / 20) (omega arith), start-most (j / 20) (j % 20) (omega arith) (omega arith) low .0))
-        go j l (inr high) = omega (arith, nth-is (tableGraph m table) legs lasts p q {runs = runs} refl j l)
+        go : (j : ℕ) → j < 400 → (runs j < unlinked) ⊎ (unlinked ≤ runs j) → unlinked ≤ runs j
+        go j l (inl low) = absurd (omega (arith, none-foremost start past (j / 20) (omega arith), start-most (j / 20) (j % 20) (omega arith) (omega arith) low .0))
+        go j l (inr high) = high
 
-    module _ {least c : ℕ} (start : First startCost 20 least c) (some : c < 20) where
+    module _ {c : ℕ} (start : Foremost startCost unlinked 20 c) (some : c < 20) where
       -- the first start
       starts-low : startCost c < unlinked
-      starts-low = go start
-        where
-          go : First startCost 20 least c → startCost c < unlinked
-          go (no-place e is all) = absurd (omega arith)
-          go (place k is low before all) = low
+      starts-low = foremost-is start some .0
 
-      starts-first : (j : ℕ) → j < c → startCost c < startCost j
-      starts-first = go start
-        where
-          go : First startCost 20 least c → (j : ℕ) → j < c → startCost c < startCost j
-          go (no-place e is all) = absurd (omega arith)
-          go (place k is low before all) = before
-
-      starts-least : (j : ℕ) → j < 20 → startCost c ≤ startCost j
-      starts-least = go start
-        where
-          go : First startCost 20 least c → (j : ℕ) → j < 20 → startCost c ≤ startCost j
-          go (no-place e is all) = absurd (omega arith)
-          go (place k is low before all) = all
+      starts-first : First startCost 20 c
+      starts-first = foremost-is start some .1
 
       module _ (tos : List ℕ) (to-start : tos ≡ keysTo (tableGraph m table) (p + c)) where
         -- the runs from it
@@ -153,32 +83,38 @@ module _ (m : Measures) (table : List ℕ) (sound : Sound (tableGraph m table)) 
             rw key (same-leg (keyFor c d) (getD zeros d 0) (getD legs c 0) (getD lasts d 0) (omega (arith, zero-at d l)) (start-some c some starts-low .0))
 
         -- THE PAIR
-        pub first-pair : {run d : ℕ} → First (placeRun tos q zeros lasts) 20 run d → Foremost runs 400 (c * 20 + d)
-        first-pair (no-place e is all) = let x = start-some c some starts-low .1 in absurd (omega (arith, x .2, all (x .0) (x .1), ends-are (x .0) (x .1)))
-        first-pair {run} {d} (place k is low before all) =
-            pair (omega arith) (omega (arith, chosen, ends-are d k)) (λ j l. omega (arith, chosen, at j (omega arith), first j (omega arith) l (below-or (runTo (j / 20) (j % 20)) unlinked))) (λ j l. omega (arith, chosen, at j l, most j l (below-or (runTo (j / 20) (j % 20)) unlinked)))
+        pub first-pair : {d : ℕ} → Foremost (placeRun tos q zeros lasts) unlinked 20 d → Foremost runs unlinked 400 (c * 20 + d)
+        first-pair {d} end = go (below-or d 20)
           where
-            at : (j : ℕ) → j < 400 → nth runs j ≡ runTo (j / 20) (j % 20)
-            at = nth-is (tableGraph m table) legs lasts p q {runs = runs} refl
-
-            chosen : nth runs (c * 20 + d) ≡ runTo c d
-            chosen =
-                let a : (c * 20 + d) / 20 ≡ c = omega arith in
-                let b : (c * 20 + d) % 20 ≡ d = omega arith in
-                at (c * 20 + d) (omega arith) ∙ rw (a, b)
-
-            -- its run is the start's cost without the one move more
-            cost-is : runTo c d + 1 ≤ startCost c
-            cost-is = let x = start-some c some starts-low .1 in omega (arith, x .3, all (x .0) (x .1), ends-are (x .0) (x .1), ends-are d k)
-
-            most : (j : ℕ) → j < 400 → (runTo (j / 20) (j % 20) < unlinked) ⊎ (unlinked ≤ runTo (j / 20) (j % 20)) → runTo c d ≤ runTo (j / 20) (j % 20)
-            most j l (inl b) = omega (arith, cost-is, starts-least (j / 20) (omega arith), start-most (j / 20) (j % 20) (omega arith) (omega arith) b .1)
-            most j l (inr b) = omega (arith, ends-are d k)
-
-            first : (j : ℕ) → j < 400 → j < c * 20 + d → (runTo (j / 20) (j % 20) < unlinked) ⊎ (unlinked ≤ runTo (j / 20) (j % 20)) → runTo c d < runTo (j / 20) (j % 20)
-            first j l i (inr b) = omega (arith, ends-are d k)
-            first j l i (inl b) = go (ℕ-discrete (j / 20) c)
+            go : (d < 20) ⊎ (20 ≤ d) → Foremost runs unlinked 400 (c * 20 + d)
+            go (inr past) = let x = start-some c some starts-low .1 in absurd (omega (arith, x .2, none-foremost end past (x .0) (x .1), ends-are (x .0) (x .1)))
+            go (inl k) = foremost-some (omega (arith, chosen, ends-are d k, foremost-is end k .0)) (record {
+              low = omega arith;
+              before = λ j l. omega (arith, chosen, earlier j (omega arith) l (below-or (runs j) unlinked));
+              least = λ j l. omega (arith, chosen, most j l (below-or (runs j) unlinked));
+            })
               where
-                go : Dec (j / 20 ≡ c) → runTo c d < runTo (j / 20) (j % 20)
-                go (no e) = omega (arith, cost-is, starts-first (j / 20) (omega arith), start-most (j / 20) (j % 20) (omega arith) (omega arith) b .1)
-                go (yes e) = rw e (omega (arith, before (j % 20) (omega arith), ends-are (j % 20) (omega arith), ends-are d k))
+                ends-first : First (placeRun tos q zeros lasts) 20 d
+                ends-first = foremost-is end k .1
+
+                chosen : runs (c * 20 + d) ≡ runTo c d
+                chosen =
+                    let a : (c * 20 + d) / 20 ≡ c = omega arith in
+                    let b : (c * 20 + d) % 20 ≡ d = omega arith in
+                    rw (a, b)
+
+                -- its run is the start's cost without the one move more
+                cost-is : runTo c d + 1 ≤ startCost c
+                cost-is = let x = start-some c some starts-low .1 in omega (arith, x .3, ends-first .least (x .0) (x .1), ends-are (x .0) (x .1), ends-are d k)
+
+                most : (j : ℕ) → j < 400 → (runs j < unlinked) ⊎ (unlinked ≤ runs j) → runTo c d ≤ runs j
+                most j l (inl b) = omega (arith, cost-is, starts-first .least (j / 20) (omega arith), start-most (j / 20) (j % 20) (omega arith) (omega arith) b .1)
+                most j l (inr b) = omega (arith, foremost-is end k .0, ends-are d k)
+
+                earlier : (j : ℕ) → j < 400 → j < c * 20 + d → (runs j < unlinked) ⊎ (unlinked ≤ runs j) → runTo c d < runs j
+                earlier j l i (inr b) = omega (arith, foremost-is end k .0, ends-are d k)
+                earlier j l i (inl b) = at (ℕ-discrete (j / 20) c)
+                  where
+                    at : Dec (j / 20 ≡ c) → runTo c d < runTo (j / 20) (j % 20)
+                    at (no e) = omega (arith, cost-is, starts-first .before (j / 20) (omega arith), start-most (j / 20) (j % 20) (omega arith) (omega arith) b .1)
+                    at (yes e) = rw e (omega (arith, ends-first .before (j % 20) (omega arith), ends-are (j % 20) (omega arith), ends-are d k))

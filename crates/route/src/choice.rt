@@ -1,14 +1,15 @@
 // The pair of a start and an end portal with the least run; of equals, the one that comes first start by start.
 ghost use mathlib.Core.Path.{_≡_};
-ghost use Prim.Native.Nat.{ℕ, _+_, _*_, _≤_};
+ghost use Prim.Native.Nat.{_+_, _*_, _≤_};
 ghost use lib.ListN.{length};
-ghost use Rattle.laws.specs.Table.{tabulate};
 ghost use Rattle.laws.specs.Graph.{BothWays};
+ghost use Rattle.laws.specs.First.{Foremost};
 ghost use Rattle.model.specs.Sectors.{sectors};
+ghost use Rattle.model.specs.LeastPath.{unlinked};
 ghost use Rattle.graph.specs.EdgeTable.{tableGraph};
 ghost use Rattle.graph.specs.Searching.{Searched};
-ghost use Rattle.route.specs.Choosing.{runFor, runIn, Foremost};
-ghost use Rattle.route.specs.FirstPair.{First, placeRun};
+ghost use Rattle.route.specs.Choosing.{runFor, pairRun};
+ghost use Rattle.route.specs.FirstPair.{placeRun};
 use graph::ends::keys_to_goal;
 use graph::keys::keys_to;
 use model::Measures;
@@ -32,7 +33,7 @@ fn run_of(key: u32, leg: u8, last: u8) -> u32
 // The first of twenty places with the least run, or 20 where there is none: keys from number p on, legs and last moves by place.
 fn first_place(keys: &[u32], p: usize, legs: &[u8], lasts: &[u8]) -> usize
     requires { ⌜ (p + 20 ≤ length (now keys)) × (length (now keys) ≤ 2000) × (length (now legs) ≡ 20) × (length (now lasts) ≡ 20) ⌝ }
-    ensures { λ r. ⌜ ((least : ℕ) × First (placeRun (now (keys .entry)) p (now (legs .entry)) (now (lasts .entry))) 20 least r) ⌝ }
+    ensures { λ r. ⌜ Foremost (placeRun (now (keys .entry)) p (now (legs .entry)) (now (lasts .entry))) unlinked 20 r ⌝ }
 {
     let mut best = 20;
     let mut least = 4294967295;
@@ -61,7 +62,7 @@ pub fn choose_pair(
 ) -> usize
     requires { ⌜ Searched m (now table) (length (now keys)) 2000 × (p + 20 ≤ sectors m * 20) × (q + 20 ≤ sectors m * 20) × (length (now legs) ≡ 20) × (length (now lasts) ≡ 20) ⌝ }
     requires { ⌜ BothWays (tableGraph m (now table)) ⌝ }
-    ensures { λ r. ⌜ Foremost (tabulate (runIn (tableGraph m (now (table .entry))) (now (legs .entry)) (now (lasts .entry)) p q) 400 0) 400 r ⌝ }
+    ensures { λ r. ⌜ Foremost (pairRun (tableGraph m (now (table .entry))) (now (legs .entry)) (now (lasts .entry)) p q) unlinked 400 r ⌝ }
 {
     let zeros: [u8; 20] = [0; 20];
     keys_to_goal(m, table, q, lasts, keys);

@@ -5,9 +5,10 @@ use Prim.Native.Nat.{ℕ, _*_, _<_}
 use lib.ListN.{length, getD, replicate, getD-replicate}
 use denote.Ref.{now}
 use borrow.Author.Needs.{needs}
+use Rattle.laws.specs.First.{foremost-within}
 use Rattle.model.specs.Sectors.{sectors}
 use Rattle.graph.specs.Searching.{searched-in}
-use Rattle.route.specs.FirstPair.{first-low, no-start, first-pair}
+use Rattle.route.specs.FirstPair.{no-start, first-pair}
 use Rattle.route.proofs.choice.choose_pair.Statement.{statement}
 use Rattle.route.proofs.choice.choose_pair.Tie as tie
 
@@ -48,7 +49,7 @@ returns c =
     let g = G (c .before) in
     let s = S g in
     let given = s .pre .0 in
-    no-start (s .args .m) (now (s .args .table)) (given .0 .sound) (s .pre .1) (s .args .p) (s .args .q) (given .1) (given .2) (now (s .args .legs)) (now (s .args .lasts)) (replicate 20 0) zero-at (g .keys-to-goal .last .1 .1 .1 .1 .0) (g .keys-to-goal .ensures) (c .before .first-place .ensures .1) (c .if1 .taken)
+    no-start (s .args .m) (now (s .args .table)) (given .0 .sound) (s .pre .1) (s .args .p) (s .args .q) (given .1) (given .2) (now (s .args .legs)) (now (s .args .lasts)) (replicate 20 0) zero-at (g .keys-to-goal .last .1 .1 .1 .1 .0) (g .keys-to-goal .ensures) (c .before .first-place .ensures) (c .if1 .taken)
 
 add-keys-to : tie.Need-add-keys-to
 add-keys-to c = search needs
@@ -69,7 +70,7 @@ mul-result : tie.Need-mul-result
 mul-result c = search needs
 
 add-result : tie.Need-add-result
-add-result c = omega (arith, E (T c) .if1 .left, first-low (c .first-place2 .ensures .1))
+add-result c = omega (arith, E (T c) .if1 .left, foremost-within (c .first-place2 .ensures))
 
 same-length-2 : tie.Need-same-length-2
 same-length-2 c = search needs
@@ -80,7 +81,7 @@ returns-2 c =
     let g = G (e .before) in
     let s = S g in
     let given = s .pre .0 in
-    first-pair (s .args .m) (now (s .args .table)) (given .0 .sound) (s .pre .1) (s .args .p) (s .args .q) (given .1) (given .2) (now (s .args .legs)) (now (s .args .lasts)) (replicate 20 0) zero-at (g .keys-to-goal .last .1 .1 .1 .1 .0) (g .keys-to-goal .ensures) (e .before .first-place .ensures .1) (omega (arith, e .if1 .left)) (T c .keys-to .last .1 .1 .1 .0) (T c .keys-to .ensures) (c .first-place2 .ensures .1)
+    first-pair (s .args .m) (now (s .args .table)) (given .0 .sound) (s .pre .1) (s .args .p) (s .args .q) (given .1) (given .2) (now (s .args .legs)) (now (s .args .lasts)) (replicate 20 0) zero-at (g .keys-to-goal .last .1 .1 .1 .1 .0) (g .keys-to-goal .ensures) (e .before .first-place .ensures) (omega (arith, e .if1 .left)) (T c .keys-to .last .1 .1 .1 .0) (T c .keys-to .ensures) (c .first-place2 .ensures)
 
 pub choose-pair-spec : {M : Type 1} → statement M
 choose-pair-spec =

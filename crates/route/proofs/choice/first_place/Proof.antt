@@ -5,12 +5,14 @@ use mathlib.Core.Logic.{⊎-elim}
 use Prim.Native.Nat.{ℕ, _-_, _≤_}
 use denote.Ref.{now}
 use borrow.Author.Needs.{needs}
-use Rattle.route.specs.FirstPair.{First, first-none, first-take, first-skip, placeRun}
+use Rattle.laws.specs.First.{Picked, picked-none, picked-take, picked-skip}
+use Rattle.model.specs.LeastPath.{unlinked}
+use Rattle.route.specs.FirstPair.{placeRun}
 use Rattle.route.proofs.choice.first_place.Statement.{statement}
 use Rattle.route.proofs.choice.first_place.Tie as tie
 
 abbrev Inv-loop : tie.InvT-loop
-Inv-loop keys p legs lasts best₀ least₀ c₀ best least c = (c ≤ 20) × First (placeRun keys p legs lasts) c least best
+Inv-loop keys p legs lasts best₀ least₀ c₀ best least c = (c ≤ 20) × Picked (placeRun keys p legs lasts) unlinked 20 c least best
 
 abbrev μ-loop : tie.MeasureT-loop
 μ-loop keys p legs lasts best₀ least₀ c₀ best least c = 20 - c
@@ -23,7 +25,7 @@ abbrev In : tie.Joined1 Inv-loop μ-loop → tie.In-loop Inv-loop μ-loop
 In c = c .before .before .before .before .before
 
 loop-holds : tie.Need-loop-holds Inv-loop μ-loop
-loop-holds c = (omega arith, first-none _)
+loop-holds c = (omega arith, picked-none _ _ _)
 
 add-run-of : tie.Need-add-run-of Inv-loop μ-loop
 add-run-of c = omega (arith, S (c .before) .pre .0, S (c .before) .pre .1, c .loop-test .taken)
@@ -54,14 +56,14 @@ loop-again c =
     let inv = In c .before .loop .inv in
     let run = c .before .run-of .ensures in (
       omega (arith, In c .loop-test .taken),
-      ⊎-elim (λ w. rw (w .1, w .2) (first-take (inv .1) run (w .0 .taken))) (λ w. rw (w .1, w .2) (first-skip (inv .1) run (w .0 .left))) (c .if1 .came),
+      ⊎-elim (λ w. rw (w .1, w .2) (picked-take (inv .1) run (w .0 .taken))) (λ w. rw (w .1, w .2) (picked-skip (inv .1) run (w .0 .left))) (c .if1 .came),
     )
 
 returns : tie.Need-returns Inv-loop μ-loop
 returns c =
     let at = c .before in
     let args = S at .args in
-    (at .loop .least, subst (λ (n : ℕ). First (placeRun (now (args .keys)) (args .p) (now (args .legs)) (now (args .lasts))) n (at .loop .least) (at .loop .best)) (omega (arith, at .loop .inv .0, c .loop-test .left)) (at .loop .inv .1))
+    (at .loop .least, subst (λ (n : ℕ). Picked (placeRun (now (args .keys)) (args .p) (now (args .legs)) (now (args .lasts))) unlinked 20 n (at .loop .least) (at .loop .best)) (omega (arith, at .loop .inv .0, c .loop-test .left)) (at .loop .inv .1))
 
 pub first-place-spec : {M : Type 1} → statement M
 first-place-spec =

@@ -5,17 +5,18 @@ use mathlib.Core.Path.{_≡_, refl, sym, ap, subst, _∙_}
 use mathlib.Core.List.{List}
 use lib.ListN.{length, getD}
 use denote.Ref.{now}
-use Rattle.laws.specs.Table.{tabulate}
 use Rattle.laws.specs.Graph.{Graph}
+use Rattle.laws.specs.First.{Foremost}
 use Rattle.model.specs.Sectors.{sectors, sectorOf}
 use Rattle.model.specs.Portals.{portalGraph}
 use Rattle.model.specs.Halls.{Hall}
+use Rattle.model.specs.LeastPath.{unlinked}
 use Rattle.model.specs.Route.{Found, throughPortals}
 use Rattle.model.specs.Store.{decode}
 use Rattle.graph.specs.Reading.{fits-of, measures-are}
 use Rattle.graph.specs.Following.{Linked, graph-is, searched-of, searched-both-ways}
 use Rattle.graph.specs.Near.{portalMoves}
-use Rattle.route.specs.Choosing.{runIn, Foremost, Chosen, chosen-none, chosen-some}
+use Rattle.route.specs.Choosing.{pairRun, runAt, Chosen, chosen-none, chosen-some}
 use Rattle.route.specs.Finding.{foundAnswer, foundInto, pair-found, pair-paired, pairRoute, none-found}
 use borrow.Author.Needs.{needs}
 use Rattle.route.proofs.find.through_lists.Statement.{statement}
@@ -31,7 +32,7 @@ hall s = decode (now (s .args .st))
 linked : (c : tie.After-fill-edges) → Linked (S c .args .m) (now (S c .args .st)) (c .fill-edges .last .1 .1 .0) (length (now (S c .args .keys)))
 linked c = record { opened = S c .pre .0; filled = c .fill-edges .ensures; numbers = S c .pre .4 }
 
-same-runs : {g h : Graph} {a b x y : List ℕ} (p q : ℕ) → g ≡ h → a ≡ b → x ≡ y → tabulate (runIn g a x p q) 400 0 ≡ tabulate (runIn h b y p q) 400 0
+same-runs : {g h : Graph} {a b x y : List ℕ} (p q : ℕ) → g ≡ h → a ≡ b → x ≡ y → pairRun g a x p q ≡ pairRun h b y p q
 same-runs p q e f k = rw (e, f, k)
 
 same-route : (h : Hall) (goal p e i j : ℕ) {a b x y : List ℕ} → a ≡ b → x ≡ y → pairRoute h goal p e (getD a i 0) (getD x j 0) ≡ pairRoute h goal p e (getD b i 0) (getD y j 0)
@@ -49,11 +50,11 @@ legs-are c = B c .before .before .before .before .before .before .portal-moves .
 lasts-are : (c : tie.After-choose-pair) → B c .before .before .before .portal-moves2 .last .1 .1 .1 .0 ≡ portalMoves (hall (S (B c))) (S (B c) .args .goal)
 lasts-are c = B c .before .before .before .portal-moves2 .ensures
 
-foremost : (c : tie.After-choose-pair) → Foremost (tabulate (runIn (portalGraph (hall (S (B c)))) (portalMoves (hall (S (B c))) (S (B c) .args .source)) (portalMoves (hall (S (B c))) (S (B c) .args .goal)) (sectorOf (S (B c) .args .source) * 20) (sectorOf (S (B c) .args .goal) * 20)) 400 0) 400 (c .choose-pair .result)
-foremost c = subst (λ (runs : List ℕ). Foremost runs 400 (c .choose-pair .result)) (same-runs (sectorOf (S (B c) .args .source) * 20) (sectorOf (S (B c) .args .goal) * 20) (graph-is (linked (B c))) (legs-are c) (lasts-are c)) (c .choose-pair .ensures)
+foremost : (c : tie.After-choose-pair) → Foremost (runAt (hall (S (B c))) (S (B c) .args .source) (S (B c) .args .goal)) unlinked 400 (c .choose-pair .result)
+foremost c = subst (λ (runs : ℕ → ℕ). Foremost runs unlinked 400 (c .choose-pair .result)) (same-runs (sectorOf (S (B c) .args .source) * 20) (sectorOf (S (B c) .args .goal) * 20) (graph-is (linked (B c))) (legs-are c) (lasts-are c)) (c .choose-pair .ensures)
 
 chosen : (c : tie.After-choose-pair) → c .choose-pair .result < 400 → Chosen (hall (S (B c))) (S (B c) .args .source) (S (B c) .args .goal) (c .choose-pair .result)
-chosen c l = chosen-some (hall (S (B c))) (S (B c) .args .source) (S (B c) .args .goal) (fits-of (S (B c) .pre .0)) refl (foremost c) l
+chosen c l = chosen-some (hall (S (B c))) (S (B c) .args .source) (S (B c) .args .goal) (fits-of (S (B c) .pre .0)) (foremost c) l
 
 -- the route over it, with leg and last moves as they were read
 found-is : (c : tie.After-choose-pair) → c .choose-pair .result < 400 → let s = S (B c) in let k = c .choose-pair .result in
@@ -107,7 +108,7 @@ returns : tie.Need-returns
 returns c =
     let k = c .before .before .before in
     let s = S (B k) in
-    none-found _ _ _ _ _ (chosen-none (hall s) (s .args .source) (s .args .goal) (fits-of (s .pre .0)) refl (foremost k) (c .if1 .taken))
+    none-found _ _ _ _ _ (chosen-none (hall s) (s .args .source) (s .args .goal) (fits-of (s .pre .0)) (foremost k) (c .if1 .taken))
 
 array-read-leg : tie.Need-array-read-leg
 array-read-leg c = search needs
