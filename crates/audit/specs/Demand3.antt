@@ -71,7 +71,7 @@ unfolding fed
 fed-scaled a n v more = rw (ne-eqb (a .measures .scale) 1 more)
 
 put-accepts : (m : Measures) (base lent : List ℕ) (n v : ℕ) → Accepts m base lent → Accepts m (set base n v) lent
-put-accepts m base lent n v ok = record { sides = ok .sides; scaled = ok .scaled; long = length-set base n v ∙ ok .long; room = ok .room }
+put-accepts m base lent n v ok = record { measures = ok .measures; long = length-set base n v ∙ ok .long; room = ok .room }
 
 -- one change
 change-follows : (lent : List ℕ) (a : Account) (st : List ℕ) → Follows lent a st → (n v : ℕ) → (changeNumber st n v ≡ 0 → a .measures .scale ≡ 1) → Follows lent (fed a (change n v)) (changeInto st n v)

@@ -1,16 +1,15 @@
 -- The store after build and any list of calls is the build of the account, as long as a change is accepted only at scale 1.
 use Prim.Native.Nat.{ℕ, zero, suc, _*_, _/_, _%_, _≤_, _<_}
-use native.Mathlib.Nat.{mul-le-mul}
 use native.Mathlib.Omega.{arith}
 use mathlib.Core.Path.{_≡_, refl, sym, ap, _∙_}
 use mathlib.Core.Logic.{_≢_}
-use mathlib.Core.Bool.{Bool, true, false, _||_}
+use mathlib.Core.Bool.{Bool, true, false}
 use mathlib.Core.List.{List, _++_}
 use lib.Dec.{ltb, eqb}
 use lib.ListN.{length, getD, set, drop, length-set}
 use lib.Seq.{drop-at}
 use borrow.Author.Tests.{ltb-false, le-ltb, le-leb, lt-leb, eqb-true, not-false}
-use Rattle.laws.specs.Fold.{pick, false-ne-true}
+use Rattle.laws.specs.Fold.{pick}
 use Rattle.laws.specs.Search.{any, any-no}
 use Rattle.laws.specs.Ladder.{refuse, passed}
 use Rattle.laws.specs.Table.{tabulate-at, length-tabulate}
@@ -18,20 +17,20 @@ use Rattle.model.specs.declared.Measures.{Measures}
 use Rattle.model.specs.declared.Side.{Side}
 use Rattle.model.specs.Cells.{sideAt}
 use Rattle.model.specs.Sectors.{sectors, cells, sectorOf, hasBeyond}
+use Rattle.model.specs.Accepted.{Accepted, accepted, good-sectors, good-scale}
 use Rattle.model.specs.Windows.{markOf, marksOf}
 use Rattle.model.specs.Halls.{Hall}
 use Rattle.model.specs.Change.{changed}
 use Rattle.model.specs.ScaleLengths.{length-floor}
 use Rattle.model.specs.Store.{measuresAt, sizeOf, marksIn, decode, encode, written}
 use Rattle.model.specs.StoreLayout.{Laid, length-encode, length-written, decode-written}
-use Rattle.model.specs.Calls.{outside, badSectors, badScale, orElse, ifAccepted, buildNumber, built, badMark, checkNumber, alterNumber, changeNumber, changeInto}
+use Rattle.model.specs.Calls.{orElse, ifAccepted, buildNumber, built, badMark, checkNumber, alterNumber, changeNumber, changeInto}
 use Rattle.audit.specs.Gates.{Fresh, mark-small}
 use Rattle.audit.specs.ChangeAtOne.{changed-built, built-fresh, fresh-exceeds}
 
 -- ---- what build accepts
 pub record Accepts (m : Measures) (base st : List ℕ) : Type 0 where
-  pub sides : badSectors m ≡ false
-  pub scaled : badScale m ≡ false
+  pub measures : Accepted m
   pub long : length base ≡ cells m
   pub room : sizeOf m ≤ length st
 
@@ -42,17 +41,7 @@ accepts m base st e =
     let b = passed _ 11 _ (a .1) in
     let c = passed _ 16 _ (b .1) in
     let d = passed _ 17 _ (c .1) in
-    record { sides = a .0; scaled = b .0; long = eqb-true (length base) (cells m) (not-false (eqb (length base) (cells m)) (c .0)); room = ltb-false (length st) (sizeOf m) (d .0) }
-
-neither : (a b : Bool) → (a || b) ≡ false → (a ≡ false) × (b ≡ false)
-neither true b e = absurd (false-ne-true (sym e))
-neither false b e = (refl, e)
-
-few-sectors : (m : Measures) → badSectors m ≡ false → sectors m ≤ 100
-unfolding badSectors
-few-sectors m e =
-    let t = neither (outside 1 10 (m .columns)) (outside 1 10 (m .rows)) e in
-    mul-le-mul (ltb-false 10 (m .columns) (neither (ltb (m .columns) 1) (ltb 10 (m .columns)) (t .0) .1)) (ltb-false 10 (m .rows) (neither (ltb (m .rows) 1) (ltb 10 (m .rows)) (t .1) .1))
+    record { measures = accepted m (a .0) (b .0); long = eqb-true (length base) (cells m) (not-false (eqb (length base) (cells m)) (c .0)); room = ltb-false (length st) (sizeOf m) (d .0) }
 
 bare : (m : Measures) (costs : List ℕ) (s : ℕ) (k : Side) → hasBeyond m s k ≡ false → markOf m costs s k ≡ 0
 unfolding markOf
@@ -61,7 +50,7 @@ bare m costs s k e = rw e
 -- ---- a built store
 module _ (m : Measures) (base st : List ℕ) (ok : Accepts m base st) where
   pub fresh : Fresh (built m base)
-  fresh = built-fresh m base (few-sectors m (ok .sides)) (ok .long)
+  fresh = built-fresh m base (ok .measures .few-sectors) (ok .long)
 
   pub laid : Laid (built m base)
   unfolding built marksOf
@@ -105,7 +94,7 @@ module _ (m : Measures) (base st : List ℕ) (ok : Accepts m base st) where
       let four : ltb (length store) 4 ≡ false = le-ltb (length store) 4 (omega (arith, as-long, ok .room)) in
       let room : ltb (length store) (sizeOf m) ≡ false = le-ltb (length store) (sizeOf m) (omega (arith, as-long, ok .room)) in
       let marks : any (badMark m (marksOf m (built m base .scaled))) (sectors m * 4) ≡ false = sym (any-no (badMark m (marksOf m (built m base .scaled))) (sectors m * 4) (sectors m * 4) (omega arith) (mark-good (built m base .scaled))) in
-      rw (four, marks-are, measured-is, ok .sides, ok .scaled, fourth, room, marks)
+      rw (four, marks-are, measured-is, good-sectors (ok .measures), good-scale (ok .measures), fourth, room, marks)
 
 -- a hall written over another of the same measures
 written-over : (g h : Hall) (st : List ℕ) → Laid g → g .measures ≡ h .measures → written h (written g st) ≡ written h st
@@ -127,7 +116,7 @@ module _ (m : Measures) (base st : List ℕ) (ok : Accepts m base st) (n v : ℕ
   module _ (one : m .scale ≡ 1) (on : n < cells m) where
     pub accepted-one : changeNumber (written (built m base) st) n v ≡ 0
     unfolding alterNumber refuse built
-    accepted-one = change-is ∙ rw (changed-built m base n v one (ok .long) on, lt-leb (cells m) n on, fresh-exceeds (built m (set base n v)) (built-fresh m (set base n v) (few-sectors m (ok .sides)) (length-set base n v ∙ ok .long)) (sectorOf n))
+    accepted-one = change-is ∙ rw (changed-built m base n v one (ok .long) on, lt-leb (cells m) n on, fresh-exceeds (built m (set base n v)) (built-fresh m (set base n v) (ok .measures .few-sectors) (length-set base n v ∙ ok .long)) (sectorOf n))
 
     pub changed-one : changeInto (written (built m base) st) n v ≡ written (built m (set base n v)) st
     unfolding changeInto ifAccepted

@@ -1,20 +1,17 @@
 -- The rungs of the plan's ladder, for `search (ladder, rungs)`: whole numbers that are known up to 16, and the answer by its number.
 use mathlib.Core.Path.{_≡_, refl, sym, ap, ap₂, _∙_}
-use mathlib.Core.Bool.{Bool, true, false, _||_, true≢false}
+use mathlib.Core.Bool.{Bool, true, false, _||_}
 use Prim.Native.Nat.{ℕ, zero, suc, _≤_, _<_, min}
 use native.Mathlib.Nat.{not-suc-le-zero}
 use native.Mathlib.Omega.{arith}
 use lib.Dec.{leb, ltb, eqb, lit<}
 use borrow.Author.Tests.{ltb-true, ltb-false, lt-ltb, le-ltb, le-leb, lt-leb, eq-eqb, ne-eqb}
+use Rattle.laws.specs.Search.{neither}
 use Rattle.model.specs.declared.Measures.{Measures}
 use Rattle.model.specs.declared.Measured.the-variants.{Accepted, Refused}
 use Rattle.model.specs.Calls.{orElse, measured}
 
 -- ---- a number k by s, which is k up to 16
-neither : (a b : Bool) → a || b ≡ false → (a ≡ false) × (b ≡ false)
-neither true b e = absurd (true≢false e)
-neither false b e = (refl, e)
-
 ten : (k s : ℕ) → s ≡ min k 16 → ltb 10 k ≡ ltb 10 s
 ten k s e = go (ltb 10 s) refl
   where

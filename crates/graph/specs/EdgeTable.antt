@@ -16,7 +16,7 @@ use Rattle.model.specs.Halls.{Hall, markAt}
 use Rattle.model.specs.Portals.{facing, headOf, edgesOf, edges, portalGraph}
 use Rattle.model.specs.LeastPathFirst.{Fits, portal-sound}
 use Rattle.model.specs.Store.{measuresAt, marksIn, decode}
-use Rattle.store.specs.Checks.{Checked, few-sectors}
+use Rattle.store.specs.Checks.{Checked}
 use Rattle.model.specs.StoreLayout.{decode-laid}
 use Rattle.graph.specs.Across.{portal-both-ways}
 
@@ -101,7 +101,7 @@ pub record Opened (m : Measures) (st : List ℕ) : Type 0 where
 
 pub checked-fits : {st : List ℕ} → Checked st → Fits (decode st)
 unfolding decode
-checked-fits {st} ok = record { small = few-sectors (ok .sides); marked = λ s side. go s side (below-or (s * 4 + sideNumber side) (sectors (measuresAt st) * 4)) }
+checked-fits {st} ok = record { small = ok .measures .few-sectors; marked = λ s side. go s side (below-or (s * 4 + sideNumber side) (sectors (measuresAt st) * 4)) }
   where
     go : (s : ℕ) (side : Side) → (s * 4 + sideNumber side < sectors (measuresAt st) * 4) ⊎ (sectors (measuresAt st) * 4 ≤ s * 4 + sideNumber side) → markAt (decode st) s side < 1024
     go s side (inl l) = omega (arith, ok .small-marks (s * 4 + sideNumber side) l)

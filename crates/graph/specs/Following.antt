@@ -26,7 +26,7 @@ use Rattle.model.specs.LeastPath.{cellRank, nodeRank, unlinked, keysTo, leastPa
 use Rattle.model.specs.LeastPathFirst.{weight-at, head-portal, portal-sound, portal-keyed, keys-settled}
 use Rattle.model.specs.Store.{decode}
 use Rattle.graph.specs.EdgeTable.{Opened, bare, edgeTable, tableGraph, length-table, table-graph, table-sound, table-both-ways}
-use Rattle.graph.specs.Reading.{measures-are, few-of, fits-of}
+use Rattle.graph.specs.Reading.{measures-are, accepted-of, fits-of}
 use Rattle.graph.specs.Searching.{Searched}
 
 -- no edge weighs more than 254 moves
@@ -69,13 +69,13 @@ module _ {m : Measures} {st table : List ℕ} {keys : ℕ} (k : Linked m st tabl
   -- so it can be searched
   pub searched-of : Searched m table keys 2000
   searched-of =
-      let few = few-of (k .opened) in
+      let few = accepted-of (k .opened) in
       record {
-        few = few .few;
+        few = few .few-sectors;
         few-rows = few .few-rows;
         long = ap length (k .filled) ∙ length-table (decode st) ∙ ap (λ (n : Measures). sectors n * 400) (measures-are (k .opened));
         numbers = k .numbers;
-        room = omega (arith, few .few);
+        room = omega (arith, few .few-sectors);
         sound = subst (λ (g : Graph). Sound g) (ap (λ (n : Measures). tableGraph n (edgeTable (decode st))) (measures-are (k .opened)) ∙ ap (tableGraph m) (sym (k .filled))) (table-sound (decode st));
         light = λ e l. omega (arith, low e l);
       }

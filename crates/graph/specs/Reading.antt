@@ -10,25 +10,18 @@ use borrow.Author.Tests.{lt-ltb, le-ltb}
 use Rattle.model.specs.declared.Measures.{Measures}
 use Rattle.model.specs.Cells.{sideNumber, sideAt}
 use Rattle.model.specs.Sectors.{sectors, cells}
+use Rattle.model.specs.Accepted.{Accepted}
 use Rattle.model.specs.Windows.{windowCount, firstPlace, lastPlace}
 use Rattle.model.specs.WindowRuns.{Run, window-run}
 use Rattle.model.specs.Portals.{portalMark, isPortal}
 use Rattle.model.specs.LeastPathFirst.{Fits}
 use Rattle.model.specs.Store.{u16At, measuresAt, sizeOf, decode}
-use Rattle.store.specs.Checks.{few-sectors}
 use Rattle.model.specs.StoreLayout.{marks-at}
 use Rattle.portal.specs.declared.runs.OpenRun.{OpenRun}
 use Rattle.portal.specs.Runs.{placesOf}
 use Rattle.model.specs.Sides.{number-side}
 use Rattle.graph.specs.Across.{portal-of}
 use Rattle.graph.specs.EdgeTable.{Opened, checked-fits}
-
--- how large the measures are
-pub record Few (m : Measures) (size : ℕ) : Type 0 where
-  pub few : sectors m ≤ 100
-  pub some-rows : 1 ≤ m .rows
-  pub few-rows : m .rows ≤ 10
-  pub room : sizeOf m ≤ size
 
 -- a window's first and last place, as they were found
 pub record Places (mark j : ℕ) (w : OpenRun) : Type 0 where
@@ -42,8 +35,11 @@ module _ {m : Measures} {st : List ℕ} (o : Opened m st) where
   unfolding decode
   measures-are = sym (o .read)
 
-  pub few-of : Few m (length st)
-  few-of = rw (o .read) (record { few = few-sectors (o .passes .sides); some-rows = o .passes .sides .some-rows; few-rows = o .passes .sides .few-rows; room = o .passes .room })
+  pub accepted-of : Accepted m
+  accepted-of = rw (o .read) (o .passes .measures)
+
+  pub room-of : sizeOf m ≤ length st
+  room-of = rw (o .read) (o .passes .room)
 
   pub fits-of : Fits (decode st)
   fits-of = checked-fits (o .passes)

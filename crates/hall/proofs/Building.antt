@@ -7,10 +7,10 @@ use borrow.Author.Tests.{ltb-false}
 use Rattle.laws.specs.Ladder.{passed}
 use Rattle.model.specs.declared.Measures.{Measures}
 use Rattle.model.specs.Sectors.{cells}
+use Rattle.model.specs.Accepted.{accepted}
 use Rattle.model.specs.Store.{sizeOf, written}
 use Rattle.model.specs.Calls.{ifAccepted, buildNumber, built, buildInto}
-use Rattle.store.specs.Checks.{sized, few-sectors, scaled-well, not-different}
-use Rattle.sector_cost.specs.Costs.{costs}
+use Rattle.store.specs.Checks.{not-different}
 use Rattle.parts.specs.Parts.{Buildable}
 use Rattle.hall.proofs.Passed.{none, not-accepted}
 
@@ -27,10 +27,8 @@ module _ (m : Measures) (base st : List ℕ) {r : ℕ} (is : r ≡ buildNumber m
         let b = passed _ 11 _ (a .1) in
         let d = passed _ 16 _ (b .1) in
         let e = passed _ 17 _ (d .1) in
-        let z = sized m (a .0) in
         record {
-          floor = record { sides = z; few = few-sectors z };
-          costs = costs (z .few-columns) (z .some-rows) (z .few-rows) (scaled-well m (b .0) .1) (not-different (length base) (cells m) (d .0));
+          costs = record { measures = accepted m (a .0) (b .0); long = not-different (length base) (cells m) (d .0) };
           room = ltb-false (length st) (sizeOf m) (e .0);
         }
 

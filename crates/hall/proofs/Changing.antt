@@ -11,7 +11,6 @@ use Rattle.model.specs.Sectors.{cells}
 use Rattle.model.specs.Store.{measuresAt, decode, written}
 use Rattle.model.specs.Change.{changed}
 use Rattle.model.specs.Calls.{orElse, checkNumber, alterNumber, changeNumber, changeInto}
-use Rattle.store.specs.Checks.{Sized, few-sectors}
 use Rattle.parts.specs.Parts.{Changeable, alteredNumber, alteredInto}
 use Rattle.hall.proofs.Passed.{none, not-accepted, refused-first, passed}
 
@@ -44,8 +43,7 @@ module _ (st : List ℕ) (n cost : ℕ) where
       pub changeable : n < size → Changeable m st n
       changeable l =
           let k = passed is no in
-          let z : Sized m = rw read (k .sides) in
-          record { stored = k; read = read; floor = record { sides = z; few = few-sectors z }; scale = rw read (k .few-scale); room = rw read (k .room); on = omega arith }
+          record { stored = k; read = read; measures = rw read (k .measures); room = rw read (k .room); on = omega arith }
 
       last : n < size → changeNumber st n cost ≡ alteredNumber st n cost
       unfolding refuse

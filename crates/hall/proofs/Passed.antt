@@ -5,9 +5,10 @@ use Prim.Native.Nat.{ℕ, zero, suc, _≤_, _<_}
 use native.Mathlib.Omega.{arith}
 use lib.ListN.{length}
 use Rattle.model.specs.declared.Measures.{Measures}
+use Rattle.model.specs.Accepted.{Accepted}
 use Rattle.model.specs.Store.{measuresAt, sizeOf}
 use Rattle.model.specs.Calls.{orElse, ifAccepted, checkNumber}
-use Rattle.store.specs.Checks.{Sized, Checked, checked}
+use Rattle.store.specs.Checks.{Checked, checked}
 
 -- a number that comes before what else may be refused
 pub refused-first : (r rest : ℕ) → 0 < r → r ≡ orElse r rest
@@ -30,10 +31,10 @@ pub has-measures : {st : List ℕ} → Checked st → 3 ≤ length st
 has-measures k = omega (arith, k .room)
 
 module _ {st : List ℕ} {m : Measures} (read : m ≡ measuresAt st) (k : Checked st) where
-  pub read-sized : Sized m
-  read-sized = rw read (k .sides)
+  pub read-accepted : Accepted m
+  read-accepted = rw read (k .measures)
 
   pub read-room : sizeOf m ≤ length st
   read-room = rw read (k .room)
 
-pub ruleset passing = (passed, has-measures, read-sized, read-room)
+pub ruleset passing = (passed, has-measures, read-accepted, read-room)

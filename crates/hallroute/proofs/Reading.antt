@@ -6,14 +6,15 @@ use Prim.Native.Nat.{ℕ, zero, suc, _+_, _*_, _≤_, _<_}
 use native.Mathlib.Omega.{arith}
 use lib.ListN.{length}
 use borrow.Author.Tests.{lt-ltb, le-ltb, eq-eqb}
-use Rattle.laws.specs.Ladder.{refuse, passed}
+use Rattle.laws.specs.Ladder.{refuse}
 use Rattle.model.specs.declared.Measures.{Measures}
 use Rattle.model.specs.declared.Measured.the-variants.{Accepted, Refused}
 use Rattle.model.specs.Sectors.{cells}
 use Rattle.model.specs.Store.{u16At, measuresAt, sizeOf, baseIn}
-use Rattle.model.specs.Calls.{badSectors, badScale, measured, ifAccepted, readNumber, readAnswer, readInto, buildNumber, buildInto}
+use Rattle.model.specs.Accepted.{many-sectors, good-sectors, good-scale}
+use Rattle.model.specs.Calls.{measured, ifAccepted, readNumber, readAnswer, readInto, buildNumber, buildInto}
 use Rattle.model.specs.Listing.{fileSize}
-use Rattle.store.specs.Checks.{sized, few-sectors, readable}
+use Rattle.store.specs.Checks.{readable}
 use Rattle.hall.proofs.Passed.{not-accepted}
 use Rattle.io.specs.Counts.{Counts}
 use Rattle.io.proofs.Counting.{counts}
@@ -46,11 +47,9 @@ module _ (file : List ℕ) where
 
     pub base-large : 10000 < size → readNumber file 0 ≡ fileNumber file
     unfolding readNumber refuse
-    base-large h = rw (large (badSectors (measuresAt file)) refl)
-      where
-        large : (b : Bool) → badSectors (measuresAt file) ≡ b → badSectors (measuresAt file) ≡ true
-        large true e = e
-        large false e = let few = few-sectors (sized (measuresAt file) e) in let all : size ≡ cells (measuresAt file) = all ∙ ap cells read in absurd (omega arith)
+    base-large h =
+        let all : size ≡ cells (measuresAt file) = all ∙ ap cells read in
+        rw (many-sectors (measuresAt file) (omega arith))
 
 -- ---- what reading it and building its hall leave
 accepted-is : (n : ℕ) {m k : Measures} → Accepted k ≡ measured n m → (n ≡ 0) × (k ≡ m)
@@ -85,17 +84,11 @@ module _ (file base st : List ℕ) (same : readNumber file (length base) ≡ fil
   unfolding readInto ifAccepted
   costs = are ∙ rw (no, size)
 
-  tests : (badSectors (measuresAt file) ≡ false) × (badScale (measuresAt file) ≡ false)
-  unfolding readNumber
-  tests =
-      let a = passed _ 10 _ (passed _ 9 _ no .1) in
-      (a .0, passed _ 11 _ (a .1) .0)
-
   build-0 : buildNumber (measuresAt file) filled st ≡ 0
   unfolding buildNumber refuse
   build-0 =
-      let few = few-sectors (sized (measuresAt file) (tests .0)) in
-      rw (tests .0, tests .1, eq-eqb (length filled) (cells (measuresAt file)) (kept ∙ size), le-ltb (length st) (sizeOf (measuresAt file)) (omega arith))
+      let ok = readable file (length base) no .measures in
+      rw (good-sectors ok, good-scale ok, eq-eqb (length filled) (cells (measuresAt file)) (kept ∙ size), le-ltb (length st) (sizeOf (measuresAt file)) (omega arith))
 
   pub file-built : {r : ℕ} {out : List ℕ} → r ≡ buildNumber m filled st → out ≡ buildInto m filled st → (r ≡ fileNumber file) × (out ≡ openInto file st)
   unfolding buildInto openInto ifAccepted

@@ -20,7 +20,8 @@ use Rattle.model.specs.Halls.{Hall}
 use Rattle.model.specs.ScaleLengths.{length-floor}
 use Rattle.model.specs.Store.{measuresAt, sizeOf, marksIn, decode, encode, written, entryCount, putEntry, baseIn}
 use Rattle.model.specs.StoreLayout.{Laid, length-encode, decode-written}
-use Rattle.model.specs.Calls.{badSectors, badScale, badMark, ifAccepted, checkNumber, built}
+use Rattle.model.specs.Accepted.{badSectors, badScale}
+use Rattle.model.specs.Calls.{badMark, ifAccepted, checkNumber, built}
 use Rattle.model.specs.Route.{routeOf}
 use Rattle.model.specs.Listing.{text, decimal, pairText, pairLines, fileSize, hallLines, fileLines, hallroute}
 use Rattle.hallroute.specs.Opening.{fileNumber, fileHall, openInto}

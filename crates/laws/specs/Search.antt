@@ -1,7 +1,7 @@
 -- Searches and tests over the numbers below a count: the first that passes, whether any does, whether all do, how many do, and the list of those that do.
 use mathlib.Core.Path.{_≡_, refl, sym, ap, _∙_}
 use mathlib.Core.Logic.{_⊎_, inl, inr}
-use mathlib.Core.Bool.{Bool, true, false, _&&_}
+use mathlib.Core.Bool.{Bool, true, false, _&&_, _||_}
 use mathlib.Core.List.{List, [], _∷_, List·Memᴰ·head, List·Memᴰ·tail, List·Memᴰ·cases-cons}
 use Prim.Native.Nat.{ℕ, zero, suc, _+_, _<_, _≤_}
 use native.Mathlib.Nat.{not-suc-le-zero, le-of-suc-le-suc, le-antisymm}
@@ -45,6 +45,10 @@ implies false b = true
 pub both : (a b : Bool) → a && b ≡ true → (a ≡ true) × (b ≡ true)
 both true b e = (refl, e)
 both false b e = absurd (false-ne-true e)
+
+pub neither : (a b : Bool) → a || b ≡ false → (a ≡ false) × (b ≡ false)
+neither true b e = absurd (false-ne-true (sym e))
+neither false b e = (refl, e)
 
 pub implied : (a b : Bool) → implies a b ≡ true → a ≡ true → b ≡ true
 unfolding implies

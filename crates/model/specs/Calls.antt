@@ -21,6 +21,7 @@ use Rattle.model.specs.declared.Listed.{Listed}
 use Rattle.model.specs.declared.Listed.the-variants as listed-as
 use Rattle.model.specs.Cells.{sideAt}
 use Rattle.model.specs.Sectors.{sectors, cells, sectorOf, hasBeyond}
+use Rattle.model.specs.Accepted.{badSectors, badScale}
 use Rattle.model.specs.Steps.{flatSteps}
 use Rattle.model.specs.Measuring.{fzero, fone, cutDown, sectorLength, acrossQuotient, downQuotient, scaleOf}
 use Rattle.model.specs.Scaling.{scaleFloor}
@@ -34,16 +35,6 @@ use Rattle.model.specs.Account.{Call, change}
 use Rattle.model.specs.Account as call-as
 
 -- ---- what all calls share
-abbrev pub outside : ℕ → ℕ → ℕ → Bool
-outside low high n = ltb n low || ltb high n
-
--- 11 "columns or rows outside 1 to 10", 12 "scale outside 1 to 9"
-unfoldable pub badSectors : Measures → Bool
-badSectors m = outside 1 10 (m .columns) || outside 1 10 (m .rows)
-
-unfoldable pub badScale : Measures → Bool
-badScale m = outside 1 9 (m .scale)
-
 -- the number of an earlier check, and the rest where it is 0
 unfoldable pub orElse : ℕ → ℕ → ℕ
 orElse zero rest = rest

@@ -26,7 +26,8 @@ use Rattle.model.specs.LeastPath.{nodeRank, keysTo, leastPath}
 use Rattle.model.specs.Route.{starts, ends, endOf, linkedPair, runOf, routePairs, chosenPair, stepAt, stepsOf, throughPair, throughPortals, oneStep, routeOf}
 use Rattle.model.specs.Account.{fed, accountAfter, accountCosts, crossings}
 use Rattle.model.specs.Store.{u16At, marksIn, decode, markBytes, encode, written, putEntry, baseIn}
-use Rattle.model.specs.Calls.{badSectors, badScale, orElse, ifAccepted, measured, valueNumber, measureNumber, planNumber, planAnswer, entryOff, readNumber, readAnswer, readInto, buildNumber, built, buildInto, badMark, checkNumber, alterNumber, changeNumber, changeInto, stepList, foundNumber, routeNumber, routed, routeAnswer, routeSteps, routeFlat, windowsFrom, flatWindows, windowsNumber, listed, windowsAnswer, windowsFlat, storeAfterCall, storeAfter}
+use Rattle.model.specs.Accepted.{badSectors, badScale}
+use Rattle.model.specs.Calls.{orElse, ifAccepted, measured, valueNumber, measureNumber, planNumber, planAnswer, entryOff, readNumber, readAnswer, readInto, buildNumber, built, buildInto, badMark, checkNumber, alterNumber, changeNumber, changeInto, stepList, foundNumber, routeNumber, routed, routeAnswer, routeSteps, routeFlat, windowsFrom, flatWindows, windowsNumber, listed, windowsAnswer, windowsFlat, storeAfterCall, storeAfter}
 use Rattle.model.specs.Listing.{digits, windowText, stepText, stepsText, answerText, pairText, pairLines, fileSize, hallLines, fileLines, hallroute}
 
 unfoldable pub computing : Unit {0}

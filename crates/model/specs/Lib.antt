@@ -5,6 +5,7 @@ pub mod Sectors
 pub mod Sides
 pub mod CellSides
 pub mod SectorSides
+pub mod Accepted
 pub mod Steps
 pub mod FlatSteps
 pub mod Directions

@@ -18,13 +18,14 @@ use Rattle.model.specs.Cells.{sideNumber, sideAt, opposite}
 use Rattle.model.specs.Sectors.{sectors, cells, sectorOf, beyond, hasBeyond}
 use Rattle.model.specs.Sides.{side-low}
 use Rattle.model.specs.SectorSides.{beyond-low}
+use Rattle.model.specs.Accepted.{Accepted}
 use Rattle.model.specs.Windows.{bits, openPlace, markOf, windowCount}
 use Rattle.model.specs.WindowRuns.{bits-small}
 use Rattle.model.specs.Store.{measuresAt, marksIn, hallIn, decode, written}
 use Rattle.model.specs.Change.{isNearby, rescaled, remarked, changed, exceedsAt, exceeds}
 use Rattle.model.specs.Calls.{ifAccepted}
-use Rattle.sector_cost.specs.Costs.{Costs, costs}
-use Rattle.parts.specs.Marks.{Floor, Small}
+use Rattle.sector_cost.specs.Costs.{Costs}
+use Rattle.parts.specs.Marks.{Small}
 use Rattle.parts.specs.Parts.{hallOf, Changeable, alteredNumber, alteredInto}
 
 -- ---- sides that exceed
@@ -41,8 +42,8 @@ windows-counted marks s side {n} k e is count =
     let at = is ∙ ap (λ j. getD marks (s * 4 + j) 0) e in
     count (rw at (k .small (s * 4 + sideNumber side))) ∙ ap windowCount at
 
-pub beyond-few : {m : Measures} (s : ℕ) (side : Side) {other : ℕ} → Floor m → s ≤ 10000 → other ≡ beyond m s side → other ≤ 20000
-beyond-few {m} s side f l e = omega (arith, f .sides .few-rows, beyond-low m s side)
+pub beyond-few : {m : Measures} (s : ℕ) (side : Side) {other : ℕ} → Accepted m → s ≤ 10000 → other ≡ beyond m s side → other ≤ 20000
+beyond-few {m} s side f l e = omega (arith, f .few-rows, beyond-low m s side)
 
 module _ (m : Measures) (marks : List ℕ) (t s k : ℕ) {side : Side} (at : side ≡ sideAt k) {edge : Bool} (is : edge ≡ (hasBeyond m s side && isNearby m t s && not (isNearby m t (beyond m s side)))) where
   pub exceeds-edge : {facing : Side} {other a b : ℕ} → edge ≡ true → other ≡ beyond m s side → facing ≡ opposite side
@@ -57,7 +58,7 @@ module _ (m : Measures) (marks : List ℕ) (t s k : ℕ) {side : Side} (at : sid
 -- ---- the hall after a change
 module _ {m : Measures} {st : List ℕ} {n : ℕ} (c : Changeable m st n) where
   pub costs-changed : (xs : List ℕ) → length xs ≡ cells m → Costs m xs
-  costs-changed xs e = let z = c .floor .sides in costs (z .few-columns) (z .some-rows) (z .few-rows) (c .scale) e
+  costs-changed xs e = record { measures = c .measures; long = e }
 
   pub changed-by : (cost : ℕ) {size size' : ℕ} {b s s' k k' : List ℕ} → size ≡ cells m → size' ≡ cells m → length b ≡ size
       → b ≡ region 4 size st → s ≡ region (4 + length (set b n cost)) size' st → s' ≡ rescaled m (set b n cost) (n / 100) s

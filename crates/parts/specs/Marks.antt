@@ -1,18 +1,13 @@
--- A floor that 01 accepts, and marks by their numbers.
+-- Marks by their numbers.
 use Prim.Native.Nat.{ℕ, _+_, _*_, _/_, _%_, _≤_}
 use mathlib.Core.List.{List}
 use lib.ListN.{getD}
 use Rattle.laws.specs.Table.{tabulate}
 use Rattle.model.specs.declared.Measures.{Measures}
 use Rattle.model.specs.Cells.{sideAt}
-use Rattle.model.specs.Sectors.{sectors, cells}
+use Rattle.model.specs.Sectors.{cells}
 use Rattle.model.specs.Windows.{markOf}
 use Rattle.model.specs.Store.{u16At}
-use Rattle.store.specs.Checks.{Sized}
-
-pub record Floor (m : Measures) : Type 0 where
-  pub sides : Sized m
-  pub few : sectors m ≤ 100
 
 -- the marks of sector s, by side: N, E, S, W
 unfoldable pub sectorMarks : List ℕ → ℕ → List ℕ

@@ -6,20 +6,19 @@ use lib.ListN.{length, getD, set}
 use Rattle.laws.specs.Ladder.{refuse}
 use Rattle.model.specs.declared.Measures.{Measures}
 use Rattle.model.specs.Sectors.{cells, sectorOf}
+use Rattle.model.specs.Accepted.{Accepted}
 use Rattle.model.specs.Halls.{Hall}
 use Rattle.model.specs.Store.{measuresAt, sizeOf, decode, written}
 use Rattle.model.specs.Change.{changed, exceeds}
 use Rattle.model.specs.Calls.{ifAccepted}
 use Rattle.store.specs.Checks.{Checked}
 use Rattle.sector_cost.specs.Costs.{Costs}
-use Rattle.parts.specs.Marks.{Floor}
 
 abbrev pub hallOf : Measures → List ℕ → List ℕ → List ℕ → Hall
 hallOf m base costs marks = record { measures = m; base = base; scaled = costs; marks = marks }
 
 -- what is built
 pub record Buildable (m : Measures) (base st : List ℕ) : Type 0 where
-  pub floor : Floor m
   pub costs : Costs m base
   pub room : sizeOf m ≤ length st
 
@@ -27,8 +26,7 @@ pub record Buildable (m : Measures) (base st : List ℕ) : Type 0 where
 pub record Changeable (m : Measures) (st : List ℕ) (n : ℕ) : Type 0 where
   pub stored : Checked st
   pub read : m ≡ measuresAt st
-  pub floor : Floor m
-  pub scale : m .scale ≤ 9
+  pub measures : Accepted m
   pub room : sizeOf m ≤ length st
   pub on : n < cells m
 

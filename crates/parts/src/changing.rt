@@ -6,12 +6,13 @@ ghost use Prim.Native.Nat.{_+_, _*_, _≤_, _<_};
 ghost use lib.ListN.{length, getD};
 ghost use Rattle.model.specs.Cells.{sideAt, sideNumber};
 ghost use Rattle.model.specs.Sectors.{sectors, cells, beyond, hasBeyond};
+ghost use Rattle.model.specs.Accepted.{Accepted};
 ghost use Rattle.model.specs.Windows.{windowCount};
 ghost use Rattle.model.specs.Store.{decode};
 ghost use Rattle.model.specs.Change.{isNearby, remarked, changed, exceedsAt, exceeds};
 ghost use Rattle.model.specs.Nearby.{atNearby};
 ghost use Rattle.parts.specs.Around.{sectorFresh, sectorExceeds, placeExceeds};
-ghost use Rattle.parts.specs.Marks.{Floor, Small};
+ghost use Rattle.parts.specs.Marks.{Small};
 ghost use Rattle.parts.specs.Parts.{hallOf, Changeable, alteredNumber, alteredInto};
 use crate::layout::cost_room;
 use crate::layout::mark_room;
@@ -36,7 +37,7 @@ use sector_cost::rescale;
 
 // Marks the four sides of sector s afresh.
 fn remark_sector(m: Measures, costs: &[u8], s: usize, marks: &mut [u16])
-    requires { ⌜ Floor m × (s < sectors m) × (length (now marks) ≡ sectors m * 4) ⌝ }
+    requires { ⌜ Accepted m × (s < sectors m) × (length (now marks) ≡ sectors m * 4) ⌝ }
     ensures { λ _. ⌜ now (marks .exit) ≡ sectorFresh m (now (costs .entry)) s (now (marks .entry)) ⌝ }
 {
     let mut i = 0;
@@ -48,7 +49,7 @@ fn remark_sector(m: Measures, costs: &[u8], s: usize, marks: &mut [u16])
 
 // Marks place k of the sectors around t afresh, if there is one.
 fn remark_place(m: Measures, costs: &[u8], t: usize, k: usize, marks: &mut [u16])
-    requires { ⌜ Floor m × (t < sectors m) × (length (now marks) ≡ sectors m * 4) ⌝ }
+    requires { ⌜ Accepted m × (t < sectors m) × (length (now marks) ≡ sectors m * 4) ⌝ }
     ensures { λ _. ⌜ now (marks .exit) ≡ atNearby m t (sectorFresh m (now (costs .entry))) k (now (marks .entry)) ⌝ }
 {
     if is_there(m, t, k) {
@@ -58,7 +59,7 @@ fn remark_place(m: Measures, costs: &[u8], t: usize, k: usize, marks: &mut [u16]
 
 // Marks the sectors around sector t afresh. Other sectors keep their marks.
 fn remark(m: Measures, costs: &[u8], t: usize, marks: &mut [u16])
-    requires { ⌜ Floor m × (t < sectors m) × (length (now marks) ≡ sectors m * 4) ⌝ }
+    requires { ⌜ Accepted m × (t < sectors m) × (length (now marks) ≡ sectors m * 4) ⌝ }
     ensures { λ _. ⌜ now (marks .exit) ≡ remarked m (now (costs .entry)) t (now (marks .entry)) ⌝ }
 {
     let mut k = 0;
@@ -88,7 +89,7 @@ fn windows_on(marks: &[u16], s: usize, side: Side) -> usize
 
 // Whether a side of sector s, one of those marked afresh, leads to a sector that is not.
 fn is_edge(m: Measures, t: usize, s: usize, side: Side) -> bool
-    requires { ⌜ Floor m × (t < sectors m) × (s < sectors m) × (isNearby m t s ≡ true) ⌝ }
+    requires { ⌜ Accepted m × (t < sectors m) × (s < sectors m) × (isNearby m t s ≡ true) ⌝ }
     ensures { λ r. ⌜ r ≡ hasBeyond m s side && isNearby m t s && not (isNearby m t (beyond m s side)) ⌝ }
 {
     if has_beyond(m, s, side) {
@@ -99,7 +100,7 @@ fn is_edge(m: Measures, t: usize, s: usize, side: Side) -> bool
 
 // Whether it has more windows on side i than the facing side of that other sector.
 fn exceeds_at(m: Measures, marks: &[u16], t: usize, s: usize, i: usize) -> bool
-    requires { ⌜ Floor m × Small (now marks) × (t < sectors m) × (s < sectors m) × (isNearby m t s ≡ true) ⌝ }
+    requires { ⌜ Accepted m × Small (now marks) × (t < sectors m) × (s < sectors m) × (isNearby m t s ≡ true) ⌝ }
     ensures { λ r. ⌜ r ≡ exceedsAt (hallOf m [] [] (now (marks .entry))) t s (sideAt i) ⌝ }
 {
     let side = side_at(i);
@@ -111,7 +112,7 @@ fn exceeds_at(m: Measures, marks: &[u16], t: usize, s: usize, i: usize) -> bool
 
 // Whether it has on any of its sides.
 fn sector_exceeds(m: Measures, marks: &[u16], t: usize, s: usize) -> bool
-    requires { ⌜ Floor m × Small (now marks) × (t < sectors m) × (s < sectors m) × (isNearby m t s ≡ true) ⌝ }
+    requires { ⌜ Accepted m × Small (now marks) × (t < sectors m) × (s < sectors m) × (isNearby m t s ≡ true) ⌝ }
     ensures { λ r. ⌜ r ≡ sectorExceeds (hallOf m [] [] (now (marks .entry))) t s ⌝ }
 {
     let mut i = 0;
@@ -126,7 +127,7 @@ fn sector_exceeds(m: Measures, marks: &[u16], t: usize, s: usize) -> bool
 
 // Whether the sector at place k around t has, if there is one.
 fn place_exceeds(m: Measures, marks: &[u16], t: usize, k: usize) -> bool
-    requires { ⌜ Floor m × Small (now marks) × (t < sectors m) × (k < 9) ⌝ }
+    requires { ⌜ Accepted m × Small (now marks) × (t < sectors m) × (k < 9) ⌝ }
     ensures { λ r. ⌜ r ≡ placeExceeds (hallOf m [] [] (now (marks .entry))) t k ⌝ }
 {
     if is_there(m, t, k) {
@@ -137,7 +138,7 @@ fn place_exceeds(m: Measures, marks: &[u16], t: usize, k: usize) -> bool
 
 // Whether any side has. Only sides of the sectors around t can.
 fn any_exceeds(m: Measures, marks: &[u16], t: usize) -> bool
-    requires { ⌜ Floor m × Small (now marks) × (t < sectors m) ⌝ }
+    requires { ⌜ Accepted m × Small (now marks) × (t < sectors m) ⌝ }
     ensures { λ r. ⌜ r ≡ exceeds (hallOf m [] [] (now (marks .entry))) t ⌝ }
 {
     let mut k = 0;

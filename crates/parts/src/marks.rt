@@ -4,10 +4,10 @@ ghost use Prim.Native.Nat.{_*_, _≤_, _<_};
 ghost use lib.ListN.{length, getD};
 ghost use Rattle.laws.specs.Each.{each};
 ghost use Rattle.model.specs.Sectors.{sectors};
+ghost use Rattle.model.specs.Accepted.{Accepted};
 ghost use Rattle.model.specs.Windows.{marksOf};
 ghost use Rattle.model.specs.Store.{sizeOf, marksIn};
-ghost use Rattle.store.specs.Checks.{Sized};
-ghost use Rattle.parts.specs.Marks.{Floor, sectorMarks, kept, fresh};
+ghost use Rattle.parts.specs.Marks.{sectorMarks, kept, fresh};
 use fields::cells::side_at;
 use fields::sectors::cells;
 use model::Measures;
@@ -16,7 +16,7 @@ use store::bytes::u16_at;
 
 // Mark k of a store.
 pub fn mark_in(st: &[u8], m: Measures, k: usize) -> u16
-    requires { ⌜ Sized m × (sizeOf m ≤ length (now st)) × (k < sectors m * 4) ⌝ }
+    requires { ⌜ Accepted m × (sizeOf m ≤ length (now st)) × (k < sectors m * 4) ⌝ }
     ensures { λ r. ⌜ r ≡ getD (marksIn m (now (st .entry))) k 0 ⌝ }
 {
     u16_at(st, 4 + 2 * cells(m) + 2 * k) as u16
@@ -24,7 +24,7 @@ pub fn mark_in(st: &[u8], m: Measures, k: usize) -> u16
 
 // The marks of the four sides of sector s.
 pub fn sector_marks(st: &[u8], m: Measures, s: usize) -> [u16; 4]
-    requires { ⌜ Sized m × (sizeOf m ≤ length (now st)) × (s < sectors m) ⌝ }
+    requires { ⌜ Accepted m × (sizeOf m ≤ length (now st)) × (s < sectors m) ⌝ }
     ensures { λ r. ⌜ r ≡ sectorMarks (marksIn m (now (st .entry))) s ⌝ }
 {
     [
@@ -37,7 +37,7 @@ pub fn sector_marks(st: &[u8], m: Measures, s: usize) -> [u16; 4]
 
 // Takes mark k over from a store.
 fn take_mark(st: &[u8], m: Measures, k: usize, marks: &mut [u16])
-    requires { ⌜ Sized m × (sizeOf m ≤ length (now st)) × (k < sectors m * 4) × (length (now marks) ≡ sectors m * 4) ⌝ }
+    requires { ⌜ Accepted m × (sizeOf m ≤ length (now st)) × (k < sectors m * 4) × (length (now marks) ≡ sectors m * 4) ⌝ }
     ensures { λ _. ⌜ now (marks .exit) ≡ each (kept m (now (st .entry))) k (now (marks .entry)) ⌝ }
 {
     marks[k] = mark_in(st, m, k);
@@ -45,7 +45,7 @@ fn take_mark(st: &[u8], m: Measures, k: usize, marks: &mut [u16])
 
 // Takes all marks over from a store.
 pub fn take_marks(st: &[u8], m: Measures, marks: &mut [u16])
-    requires { ⌜ Sized m × (sizeOf m ≤ length (now st)) × (length (now marks) ≡ sectors m * 4) ⌝ }
+    requires { ⌜ Accepted m × (sizeOf m ≤ length (now st)) × (length (now marks) ≡ sectors m * 4) ⌝ }
     ensures { λ _. ⌜ now (marks .exit) ≡ marksIn m (now (st .entry)) ⌝ }
 {
     let n = marks.len();
@@ -58,7 +58,7 @@ pub fn take_marks(st: &[u8], m: Measures, marks: &mut [u16])
 
 // Marks side k afresh, from the costs.
 pub fn mark_side(m: Measures, costs: &[u8], k: usize, marks: &mut [u16])
-    requires { ⌜ Floor m × (k < sectors m * 4) × (length (now marks) ≡ sectors m * 4) ⌝ }
+    requires { ⌜ Accepted m × (k < sectors m * 4) × (length (now marks) ≡ sectors m * 4) ⌝ }
     ensures { λ _. ⌜ now (marks .exit) ≡ each (fresh m (now (costs .entry))) k (now (marks .entry)) ⌝ }
 {
     marks[k] = side_mark(m, costs, k / 4, side_at(k % 4));
@@ -66,7 +66,7 @@ pub fn mark_side(m: Measures, costs: &[u8], k: usize, marks: &mut [u16])
 
 // Marks all sides afresh.
 pub fn mark_all(m: Measures, costs: &[u8], marks: &mut [u16])
-    requires { ⌜ Floor m × (length (now marks) ≡ sectors m * 4) ⌝ }
+    requires { ⌜ Accepted m × (length (now marks) ≡ sectors m * 4) ⌝ }
     ensures { λ _. ⌜ now (marks .exit) ≡ marksOf m (now (costs .entry)) ⌝ }
 {
     let n = marks.len();

@@ -22,7 +22,7 @@ use Rattle.model.specs.Nearby.{on-axis}
 use Rattle.model.specs.SectorSides.{sector-is}
 use Rattle.model.specs.Scaling.{isWall}
 use Rattle.fields.specs.Bounds.{eastward-small, southward-small, stepped-small}
-use Rattle.sector_cost.specs.Costs.{Small}
+use Rattle.model.specs.Accepted.{Accepted}
 use Rattle.sector_cost.specs.Lines.{onLine}
 
 -- the sector that place p lies in, by column and row, each plus one; whether there is such a sector; and the floor number of the cell there
@@ -79,13 +79,16 @@ shown-at m xs c r x y few small =
 place-parts : (p : ℕ) → 1 ≤ columnAt p → 1 ≤ rowAt p → p ≡ ((rowAt p - 1) * 10 + (p / 120 % 10 + 10)) * 120 + ((columnAt p - 1) * 10 + (p % 120 % 10 + 10))
 place-parts p h k = omega arith
 
+one-less : (n k : ℕ) → 1 ≤ n → n ≤ k → n - 1 < k
+one-less n k h l = omega arith
+
 -- the same from sector s, whose column and row are below ten
-module _ (m : Measures) (s : ℕ) (small : Small m) (on : s < sectors m) where
+module _ (m : Measures) (s : ℕ) (ok : Accepted m) (on : s < sectors m) where
   column-few : columnOf m s ≤ 9
-  column-few = omega (arith, div-lt-iff-lt-mul (small .rows) .1 on)
+  column-few = omega (arith, div-lt-iff-lt-mul (ok .some-rows) .1 on)
 
   row-few : rowOf m s ≤ 9
-  row-few = omega (arith, mod-lt s (small .rows))
+  row-few = omega (arith, mod-lt s (ok .some-rows))
 
   -- all its cells are on the board
   pub corner-high : corner m s + 1090 ≤ 14400
@@ -181,9 +184,10 @@ module _ (m : Measures) (s : ℕ) (small : Small m) (on : s < sectors m) where
                 let t = both (onAxis (columnAt p) (m .columns)) (onAxis (rowAt p) (m .rows)) e in
                 let across = on-axis (columnAt p) (m .columns) (t .0) in
                 let down = on-axis (rowAt p) (m .rows) (t .1) in
+                let inside : r < m .rows = one-less (rowAt p) (m .rows) (down .0) (down .1) in
                 let sector : sectorNumber m c r ≡ s = omega arith in
-                let column : columnOf m s ≡ c = ap (columnOf m) (sym sector) ∙ sector-is m c r (omega arith) .0 in
-                let row : rowOf m s ≡ r = ap (rowOf m) (sym sector) ∙ sector-is m c r (omega arith) .1 in
+                let column : columnOf m s ≡ c = ap (columnOf m) (sym sector) ∙ sector-is m c r inside .0 in
+                let row : rowOf m s ≡ r = ap (rowOf m) (sym sector) ∙ sector-is m c r inside .1 in
                 let tens : j / 10 ≡ p / 120 % 10 = omega arith in
                 let ones : j % 10 ≡ p % 120 % 10 = omega arith in
                 rw (spot-place, column, row, tens, ones) (place-parts p (across .0) (down .0))

@@ -111,7 +111,7 @@ module _ {m : Measures} {xs : List ℕ} (costs : Costs m xs) where
       let c' : c + 1 - 1 ≡ c = omega arith in
       let y' : y / 10 + 1 - 1 ≡ y / 10 = omega arith in
       let sum : (c * m .rows + y / 10) * 100 + (y % 10 * 10 + j) ≡ (c * m .rows + y / 10) * 100 + y % 10 * 10 + j = omega arith in
-      let few : c ≤ 9 = omega (arith, costs .small .wide) in
+      let few : c ≤ 9 = omega (arith, costs .measures .few-columns) in
       rw (place, shown-at m xs c (y / 10) (j + 10) (y % 10 + 10) few (omega arith), column, row, index, c', y', le-leb 1 (c + 1) (omega arith), le-leb (c + 1) (m .columns) (omega arith), le-leb 1 (y / 10 + 1) (omega arith), le-leb (y / 10 + 1) (m .rows) (omega arith), sum)
       (getD-default xs _ 255 0 (row-fits y c j down across l))
 
@@ -119,10 +119,10 @@ module _ {m : Measures} {xs : List ℕ} (costs : Costs m xs) where
       → cs ≡ within (rowStart y + c * 10) 10 (λ old. region ((c * m .rows + y / 10) * 100 + y % 10 * 10) 10 xs) bs → Showing m xs (rowStart y + (c + 1) * 10) cs
   row-more y c down across h e =
       let k : rowStart y + (c + 1) * 10 ≡ rowStart y + c * 10 + 10 = omega arith in
-      rw k (showing-ten (rowStart y + c * 10) ((c * m .rows + y / 10) * 100 + y % 10 * 10) h (omega (arith, costs .small .wide, costs .small .tall)) (omega (arith, row-fits y c 9 down across (omega arith))) (λ j l. row-shown y c j down across l) e)
+      rw k (showing-ten (rowStart y + c * 10) ((c * m .rows + y / 10) * 100 + y % 10 * 10) h (omega (arith, costs .measures .few-columns, costs .measures .few-rows)) (omega (arith, row-fits y c 9 down across (omega arith))) (λ j l. row-shown y c j down across l) e)
 
   pub row-end : (y : ℕ) {bs : List ℕ} → y < m .rows * 10 → Showing m xs (rowStart y + m .columns * 10) bs → Showing m xs (rowStart (y + 1)) bs
-  row-end y down h = showing-walls (rowStart (y + 1)) h (omega (arith, costs .small .wide)) (omega (arith, costs .small .tall)) (λ p l u. wall-at m xs p (λ a b c d. omega arith))
+  row-end y down h = showing-walls (rowStart (y + 1)) h (omega (arith, costs .measures .few-columns)) (omega (arith, costs .measures .few-rows)) (λ p l u. wall-at m xs p (λ a b c d. omega arith))
 
   pub floor-start : {bs : List ℕ} → Showing m xs 0 bs → Showing m xs (rowStart 0) bs
   floor-start h = showing-walls (rowStart 0) h (omega arith) (omega arith) (λ p l u. wall-at m xs p (λ a b c d. omega arith))

@@ -32,7 +32,7 @@ module _ {m : Measures} {s o : ℕ} {xs bs : List ℕ} (h : Shows m s o xs bs) w
 
   -- the cells of the sector are on it
   pub shows-room : o + 1090 ≤ length bs
-  shows-room = rw (shows-long, h .at) (corner-high m s (h .costs .small) (h .on))
+  shows-room = rw (shows-long, h .at) (corner-high m s (h .costs .measures) (h .on))
 
   -- another list of the same length, and its board
   pub shows-again : {ys cs : List ℕ} → length ys ≡ length xs → cs ≡ boardOf m ys → Shows m s o ys cs
@@ -42,14 +42,14 @@ module _ {m : Measures} {s o : ℕ} {xs bs : List ℕ} (h : Shows m s o xs bs) w
     -- nine steps stay on the board
     pub on-board : (n : ℕ) → n ≤ 9 → Line (spot o i) step n (length bs)
     on-board n few = rw (is, h .at, shows-long) (record {
-      low = λ k l. line-low m s (h .costs .small) (h .on) i d k cell (omega arith);
-      high = λ k l. line-high m s (h .costs .small) (h .on) i d k cell (omega arith);
+      low = λ k l. line-low m s (h .costs .measures) (h .on) i d k cell (omega arith);
+      high = λ k l. line-high m s (h .costs .measures) (h .on) i d k cell (omega arith);
     })
 
     -- and meet a wall where the walk does
     pub walk-passes : {r : ℕ} {met : Bool} → Sought (blockedOn bs (spot o i) step) (m .scale) r met → r ≡ passes m xs s i d
     unfolding passes
-    walk-passes w = sym (w .at) ∙ rw (is, h .at, h .shows) (first-same _ _ (m .scale) (λ k l. sym (wall-shown m s (h .costs .small) (h .on) i d (k + 1) cell (omega (arith, h .costs .scale)) xs)))
+    walk-passes w = sym (w .at) ∙ rw (is, h .at, h .shows) (first-same _ _ (m .scale) (λ k l. sym (wall-shown m s (h .costs .measures) (h .on) i d (k + 1) cell (omega (arith, h .costs .measures .few-scale)) xs)))
 
 -- ---- the cells passed
 -- a step on one axis, on a circle of ten places
@@ -94,7 +94,7 @@ module _ {i : ℕ} {d : CompassDir} (k : ℕ) {x y : ℕ} (h : Turned i d (k + 1
 module _ {m : Measures} {s o i : ℕ} {xs bs : List ℕ} (d : CompassDir) (h : Shows m s o xs bs) (cell : i < 100) where
   step-shown : (k : ℕ) → k < 9 → (ys : List ℕ) → blockSpot o i d k (boardOf m ys) ≡ boardOf m (blockStep s i d k ys)
   unfolding blockSpot blockStep
-  step-shown k few ys = rw (h .at) (sym (board-set m s (h .costs .small) (h .on) (landing i d (k + 1) .index) (landing-index i d (k + 1) cell (omega arith)) ys))
+  step-shown k few ys = rw (h .at) (sym (board-set m s (h .costs .measures) (h .on) (landing i d (k + 1) .index) (landing-index i d (k + 1) cell (omega arith)) ys))
 
   pub run-shown : (n : ℕ) → n ≤ 9 → run (blockSpot o i d) n bs ≡ boardOf m (run (blockStep s i d) n xs)
   unfolding run

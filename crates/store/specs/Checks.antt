@@ -1,9 +1,8 @@
 -- What the checks of a store and of a file show, once they are passed.
 use mathlib.Core.Path.{_≡_, refl, sym, ap, _∙_}
-use mathlib.Core.Bool.{Bool, true, false, not, _||_}
+use mathlib.Core.Bool.{Bool, true, false, not}
 use mathlib.Core.List.{List}
 use Prim.Native.Nat.{ℕ, zero, suc, _+_, _*_, _/_, _%_, _≤_, _<_}
-use native.Mathlib.Nat.{mul-le-mul}
 use native.Mathlib.Omega.{arith}
 use lib.Dec.{ltb, eqb}
 use lib.ListN.{length, getD, replicate}
@@ -12,42 +11,12 @@ use Rattle.laws.specs.Fold.{pick, false-ne-true, run}
 use Rattle.laws.specs.Search.{any, any-none}
 use Rattle.laws.specs.Ladder.{passed}
 use Rattle.model.specs.declared.Measures.{Measures}
-use Rattle.model.specs.declared.Measured.the-variants.{Accepted, Refused}
+use Rattle.model.specs.declared.Measured.the-variants as measured-as
 use Rattle.model.specs.Cells.{sideAt}
 use Rattle.model.specs.Sectors.{sectors, cells, hasBeyond}
+use Rattle.model.specs.Accepted.{badSectors, badScale, Accepted, accepted}
 use Rattle.model.specs.Store.{measuresAt, sizeOf, marksIn, entryCount, entryNumber, putEntry, baseIn}
-use Rattle.model.specs.Calls.{outside, badSectors, badScale, badMark, checkNumber, entryOff, readNumber, readAnswer, readInto, measured, ifAccepted}
-
--- ---- measures
-pub record Sized (m : Measures) : Type 0 where
-  pub some-columns : 1 ≤ m .columns
-  pub few-columns : m .columns ≤ 10
-  pub some-rows : 1 ≤ m .rows
-  pub few-rows : m .rows ≤ 10
-
-neither : (a b : Bool) → (a || b) ≡ false → (a ≡ false) × (b ≡ false)
-neither true b e = absurd (false-ne-true (sym e))
-neither false b e = (refl, e)
-
-inside : (low high n : ℕ) → outside low high n ≡ false → (low ≤ n) × (n ≤ high)
-inside low high n e =
-    let t = neither (ltb n low) (ltb high n) e in
-    (ltb-false n low (t .0), ltb-false high n (t .1))
-
-pub sized : (m : Measures) → badSectors m ≡ false → Sized m
-unfolding badSectors
-sized m e =
-    let t = neither (outside 1 10 (m .columns)) (outside 1 10 (m .rows)) e in
-    let a = inside 1 10 (m .columns) (t .0) in
-    let b = inside 1 10 (m .rows) (t .1) in
-    record { some-columns = a .0; few-columns = a .1; some-rows = b .0; few-rows = b .1 }
-
-pub scaled-well : (m : Measures) → badScale m ≡ false → (1 ≤ m .scale) × (m .scale ≤ 9)
-unfolding badScale
-scaled-well m e = inside 1 9 (m .scale) e
-
-pub few-sectors : {m : Measures} → Sized m → sectors m ≤ 100
-few-sectors h = mul-le-mul (h .few-columns) (h .few-rows)
+use Rattle.model.specs.Calls.{badMark, checkNumber, entryOff, readNumber, readAnswer, readInto, measured, ifAccepted}
 
 -- What a test found of measures that were read from bytes: for the search at each return of a ladder.
 module _ (bytes : List ℕ) (m : Measures) (read : m ≡ measuresAt bytes) (r t : Bool) where
@@ -72,9 +41,7 @@ module _ (bytes : List ℕ) (m : Measures) (read : m ≡ measuresAt bytes) (r t 
 -- ---- a store
 -- a store that passes
 pub record Checked (st : List ℕ) : Type 0 where
-  pub sides : Sized (measuresAt st)
-  pub some-scale : 1 ≤ measuresAt st .scale
-  pub few-scale : measuresAt st .scale ≤ 9
+  pub measures : Accepted (measuresAt st)
   pub fourth : getD st 3 0 ≡ 0
   pub room : sizeOf (measuresAt st) ≤ length st
   pub small-marks : (k : ℕ) → k < sectors (measuresAt st) * 4 → getD (marksIn (measuresAt st) st) k 0 ≤ 1023
@@ -101,9 +68,7 @@ checked st e =
     let g = passed _ 19 _ (f .1) in
     let good : (k : ℕ) → k < sectors m * 4 → badMark m (marksIn m st) k ≡ false = λ k h. any-none (badMark m (marksIn m st)) (sectors m * 4) k (g .0) h in
     record {
-      sides = sized m (b .0);
-      some-scale = scaled-well m (c .0) .0;
-      few-scale = scaled-well m (c .0) .1;
+      measures = accepted m (b .0) (c .0);
       fourth = omega (arith, ltb-false 0 (getD st 3 0) (d .0));
       room = ltb-false (length st) (sizeOf m) (f .0);
       small-marks = λ k h. mark-small (hasBeyond m (k / 4) (sideAt (k % 4))) (getD (marksIn m st) k 0) (good k h);
@@ -120,9 +85,7 @@ whole-file file r e h = omega (arith, not-different (length file) (5 + 3 * entry
 
 -- a file that is read
 pub record Readable (file : List ℕ) (size : ℕ) : Type 0 where
-  pub sides : Sized (measuresAt file)
-  pub some-scale : 1 ≤ measuresAt file .scale
-  pub few-scale : measuresAt file .scale ≤ 9
+  pub measures : Accepted (measuresAt file)
   pub head : 5 ≤ length file
   pub whole : length file ≡ 5 + 3 * entryCount file
   pub on : any (entryOff file) (entryCount file) ≡ false
@@ -140,9 +103,7 @@ readable file size e =
     let g = passed _ 14 _ (f .1) in
     let h = passed _ 15 _ (g .1) in
     record {
-      sides = sized m (b .0);
-      some-scale = scaled-well m (c .0) .0;
-      few-scale = scaled-well m (c .0) .1;
+      measures = accepted m (b .0) (c .0);
       head = ltb-false (length file) 5 (a .0);
       whole = not-different (length file) (5 + 3 * entryCount file) (f .0);
       on = g .0;
@@ -156,7 +117,7 @@ entry-on file n k e h = leb-false (cells (measuresAt file)) (entryNumber file k)
 
 -- ---- answers
 -- What reading gives, in the shape of a return: a refusal, and a list that was filled and took the entries.
-measured-no : (n : ℕ) (m : Measures) → (n ≡ 0 → ⊥) → Refused n ≡ measured n m
+measured-no : (n : ℕ) (m : Measures) → (n ≡ 0 → ⊥) → measured-as.Refused n ≡ measured n m
 unfolding measured
 measured-no zero m h = absurd (h refl)
 measured-no (suc n) m h = refl
@@ -167,13 +128,13 @@ not-accepted zero new old h = absurd (h refl)
 not-accepted (suc n) new old h = refl
 
 module _ (file list : List ℕ) (r : ℕ) (is : r ≡ readNumber file (length list)) where
-  pub read-refused : (r ≡ 0 → ⊥) → (Refused r ≡ readAnswer file (length list)) × (list ≡ readInto file list)
+  pub read-refused : (r ≡ 0 → ⊥) → (measured-as.Refused r ≡ readAnswer file (length list)) × (list ≡ readInto file list)
   unfolding readAnswer readInto
   read-refused h = (
     rw (← is) (measured-no r (measuresAt file) h),
     rw (← is) (not-accepted r (baseIn file (length list)) list h),
   )
 
-  pub read-accepted : (m : Measures) (n : ℕ) (ones out : List ℕ) → r ≡ 0 → m ≡ measuresAt file → n ≡ entryCount file → ones ≡ replicate (length list) 1 → out ≡ run (putEntry file n) n ones → (Accepted m ≡ readAnswer file (length list)) × (out ≡ readInto file list)
+  pub read-accepted : (m : Measures) (n : ℕ) (ones out : List ℕ) → r ≡ 0 → m ≡ measuresAt file → n ≡ entryCount file → ones ≡ replicate (length list) 1 → out ≡ run (putEntry file n) n ones → (measured-as.Accepted m ≡ readAnswer file (length list)) × (out ≡ readInto file list)
   unfolding readAnswer readInto baseIn measured ifAccepted
   read-accepted m n ones out h em en eo e = (rw (← is, h, em), rw (← is, h, e, en, eo))

@@ -15,7 +15,7 @@ use Rattle.model.specs.declared.Measures.{Measures}
 use Rattle.model.specs.Cells.{sideAt}
 use Rattle.model.specs.Sectors.{sectors, hasBeyond}
 use Rattle.model.specs.Calls.{badMark}
-use Rattle.store.specs.Checks.{Sized}
+use Rattle.model.specs.Accepted.{Accepted}
 use Rattle.laws.specs.Hits.{any-hit, same-test}
 
 abbrev pub isAbove : List ℕ → ℕ → ℕ → Bool
@@ -45,7 +45,7 @@ either false b e = inr e
 pub column-on : (m : Measures) (x : ℕ) → x < m .columns → x * m .rows + m .rows ≤ sectors m
 column-on m x l = let room : suc x * m .rows ≤ sectors m = mul-le-mul l (le-refl (m .rows)) in omega (arith, room, suc-mul x (m .rows))
 
-pub row-on : {m : Measures} → Sized m → m .rows ≤ sectors m
+pub row-on : {m : Measures} → Accepted m → m .rows ≤ sectors m
 row-on {m} h = omega (arith, column-on m 0 (h .some-columns))
 
 module _ (m : Measures) (marks : List ℕ) where
@@ -96,7 +96,7 @@ module _ (m : Measures) (marks : List ℕ) where
   abbrev rows : Bool
   rows = any (rowEnds m marks) (m .rows)
 
-  module _ (h : Sized m) where
+  module _ (h : Accepted m) where
     -- a mark on a side without neighbour is at an end
     at-end : (s i : ℕ) → s < sectors m → i < 4 → hasBeyond m s (sideAt i) ≡ false → isAbove marks 0 (s * 4 + i) ≡ true → (columns || rows) ≡ true
     unfolding hasBeyond

@@ -7,8 +7,8 @@ ghost use lib.ListN.{length};
 ghost use Rattle.laws.specs.Search.{any};
 ghost use Rattle.model.specs.Sectors.{sectors, cells};
 ghost use Rattle.model.specs.Store.{sizeOf, marksIn};
-ghost use Rattle.model.specs.Calls.{outside, badSectors, badScale, badMark, checkNumber};
-ghost use Rattle.store.specs.Checks.{Sized};
+ghost use Rattle.model.specs.Accepted.{outside, badSectors, badScale, Accepted};
+ghost use Rattle.model.specs.Calls.{badMark, checkNumber};
 ghost use Rattle.store.specs.Ends.{isAbove, columnEnds, rowEnds};
 use crate::bytes::measures_at;
 use crate::bytes::size_of;
@@ -60,7 +60,7 @@ pub fn too_short(st: &[u8], m: Measures) -> bool
 
 // Whether mark k of a store is above a limit.
 fn is_above(st: &[u8], m: Measures, limit: usize, k: usize) -> bool
-    requires { ⌜ Sized m × (sizeOf m ≤ length (now st)) × (k < sectors m * 4) ⌝ }
+    requires { ⌜ Accepted m × (sizeOf m ≤ length (now st)) × (k < sectors m * 4) ⌝ }
     ensures { λ r. ⌜ r ≡ isAbove (marksIn m (now (st .entry))) limit k ⌝ }
 {
     limit < u16_at(st, 4 + 2 * cells(m) + 2 * k)
@@ -68,7 +68,7 @@ fn is_above(st: &[u8], m: Measures, limit: usize, k: usize) -> bool
 
 // Whether any mark is above 1,023.
 fn any_large(st: &[u8], m: Measures) -> bool
-    requires { ⌜ Sized m × (sizeOf m ≤ length (now st)) ⌝ }
+    requires { ⌜ Accepted m × (sizeOf m ≤ length (now st)) ⌝ }
     ensures { λ r. ⌜ r ≡ any (isAbove (marksIn m (now (st .entry))) 1023) (sectors m * 4) ⌝ }
 {
     let n = sectors(m) * 4;
@@ -92,7 +92,7 @@ fn first_in(m: Measures, x: usize) -> usize
 
 // Whether column x has a mark at an end: on the north side of its first sector, or on the south side of its last.
 fn column_ends(st: &[u8], m: Measures, x: usize) -> bool
-    requires { ⌜ Sized m × (sizeOf m ≤ length (now st)) × (x < m .columns) ⌝ }
+    requires { ⌜ Accepted m × (sizeOf m ≤ length (now st)) × (x < m .columns) ⌝ }
     ensures { λ r. ⌜ r ≡ columnEnds m (marksIn m (now (st .entry))) x ⌝ }
 {
     let first = first_in(m, x);
@@ -104,7 +104,7 @@ fn column_ends(st: &[u8], m: Measures, x: usize) -> bool
 
 // Whether any column has.
 fn any_column_ends(st: &[u8], m: Measures) -> bool
-    requires { ⌜ Sized m × (sizeOf m ≤ length (now st)) ⌝ }
+    requires { ⌜ Accepted m × (sizeOf m ≤ length (now st)) ⌝ }
     ensures { λ r. ⌜ r ≡ any (columnEnds m (marksIn m (now (st .entry)))) (m .columns) ⌝ }
 {
     let n = wide(m.columns);
@@ -120,7 +120,7 @@ fn any_column_ends(st: &[u8], m: Measures) -> bool
 
 // Whether row y has a mark at an end: on the west side of its first sector, or on the east side of its last.
 fn row_ends(st: &[u8], m: Measures, y: usize) -> bool
-    requires { ⌜ Sized m × (sizeOf m ≤ length (now st)) × (y < m .rows) ⌝ }
+    requires { ⌜ Accepted m × (sizeOf m ≤ length (now st)) × (y < m .rows) ⌝ }
     ensures { λ r. ⌜ r ≡ rowEnds m (marksIn m (now (st .entry))) y ⌝ }
 {
     if is_above(st, m, 0, y * 4 + 3) {
@@ -131,7 +131,7 @@ fn row_ends(st: &[u8], m: Measures, y: usize) -> bool
 
 // Whether any row has.
 fn any_row_ends(st: &[u8], m: Measures) -> bool
-    requires { ⌜ Sized m × (sizeOf m ≤ length (now st)) ⌝ }
+    requires { ⌜ Accepted m × (sizeOf m ≤ length (now st)) ⌝ }
     ensures { λ r. ⌜ r ≡ any (rowEnds m (marksIn m (now (st .entry)))) (m .rows) ⌝ }
 {
     let n = wide(m.rows);
@@ -147,7 +147,7 @@ fn any_row_ends(st: &[u8], m: Measures) -> bool
 
 // Whether any mark of a store is above 1,023, or not 0 on a side without neighbour, which is at an end of a column or row.
 fn any_bad_mark(st: &[u8], m: Measures) -> bool
-    requires { ⌜ Sized m × (sizeOf m ≤ length (now st)) ⌝ }
+    requires { ⌜ Accepted m × (sizeOf m ≤ length (now st)) ⌝ }
     ensures { λ r. ⌜ r ≡ any (badMark m (marksIn m (now (st .entry)))) (sectors m * 4) ⌝ }
 {
     if any_large(st, m) {

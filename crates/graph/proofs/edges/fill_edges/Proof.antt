@@ -8,7 +8,7 @@ use Rattle.laws.specs.Table.{tabled-none, tabled-at}
 use Rattle.model.specs.Sectors.{sectors}
 use Rattle.model.specs.Store.{decode}
 use Rattle.graph.specs.EdgeTable.{Filled, filled-all}
-use Rattle.graph.specs.Reading.{few-of, measures-are}
+use Rattle.graph.specs.Reading.{accepted-of, measures-are}
 use Rattle.graph.proofs.edges.fill_edges.Statement.{statement}
 use Rattle.graph.proofs.edges.fill_edges.Tie as tie
 
@@ -38,7 +38,7 @@ fill-sector-requires c κs =
 add-s : tie.Need-add-s Inv-loop μ-loop
 add-s c =
     let at = c .before .before .before .before .before in
-    omega (arith, c .before .before .before .before .loop-test .taken, at .before .sectors .ensures, few-of (S (at .before) .pre .0) .few)
+    omega (arith, c .before .before .before .before .loop-test .taken, at .before .sectors .ensures, accepted-of (S (at .before) .pre .0) .few-sectors)
 
 loop-less : tie.Need-loop-less Inv-loop μ-loop
 loop-less c = omega arith

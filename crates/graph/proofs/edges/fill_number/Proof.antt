@@ -8,7 +8,7 @@ use Rattle.model.specs.Sectors.{sectors, costsOf}
 use Rattle.model.specs.Halls.{Hall}
 use Rattle.model.specs.Store.{decode}
 use Rattle.moves.specs.Levels.{openWords}
-use Rattle.graph.specs.Reading.{few-of, fits-of, measures-are}
+use Rattle.graph.specs.Reading.{accepted-of, fits-of, measures-are}
 use Rattle.graph.specs.Weights.{mids-long, own-none, own-some, moves-own, weight-none, weight-by}
 use borrow.Author.Needs.{needs}
 use Rattle.graph.proofs.edges.fill_number.Statement.{statement}
@@ -25,7 +25,7 @@ are c = ap sectors (measures-are (S c .pre .0 .0))
 
 -- the places stand in the table, and in the graph
 few : (c : tie.After-shared-slice-known4) → S c .args .p < 2000
-few c = omega (arith, few-of (S c .pre .0 .0) .few, S c .pre .0 .1)
+few c = omega (arith, accepted-of (S c .pre .0 .0) .few-sectors, S c .pre .0 .1)
 
 room : (c : tie.After-shared-slice-known4) → S c .args .p * 20 + 20 ≤ length (now (S c .args .table))
 room c = omega (arith, S c .pre .0 .3 .long, are c, S c .pre .0 .1)

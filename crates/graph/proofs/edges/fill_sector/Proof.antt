@@ -10,7 +10,7 @@ use Rattle.model.specs.Store.{decode}
 use Rattle.moves.specs.Levels.{openWords}
 use Rattle.graph.specs.EdgeTable.{Filled}
 use Rattle.graph.specs.Near.{sectorMids}
-use Rattle.graph.specs.Reading.{few-of}
+use Rattle.graph.specs.Reading.{accepted-of}
 use borrow.Author.Needs.{needs}
 use Rattle.graph.proofs.edges.fill_sector.Statement.{statement}
 use Rattle.graph.proofs.edges.fill_sector.Tie as tie
@@ -25,13 +25,13 @@ abbrev S : tie.After-words2 Inv-loop μ-loop → tie.Start Inv-loop μ-loop
 S c = c .before .before .before .before .before .before .before .before
 
 few : (c : tie.After-words2 Inv-loop μ-loop) → S c .args .s ≤ 100
-few c = omega (arith, few-of (S c .pre .0) .few, S c .pre .1)
+few c = omega (arith, accepted-of (S c .pre .0) .few-sectors, S c .pre .1)
 
 slice-aggregate-sector-mids : tie.Need-slice-aggregate-sector-mids Inv-loop μ-loop
 slice-aggregate-sector-mids c = search needs
 
 sector-mids-requires : tie.Need-sector-mids-requires Inv-loop μ-loop
-sector-mids-requires c κs = let start = c .before .before .before in (start .pre .0, omega (arith, few-of (start .pre .0) .few, start .pre .1), refl)
+sector-mids-requires c κs = let start = c .before .before .before in (start .pre .0, omega (arith, accepted-of (start .pre .0) .few-sectors, start .pre .1), refl)
 
 slice-aggregate-sector-words : tie.Need-slice-aggregate-sector-words Inv-loop μ-loop
 slice-aggregate-sector-words c = search needs

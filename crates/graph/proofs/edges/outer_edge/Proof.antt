@@ -4,7 +4,7 @@ use borrow.Author.Tests.{not-true, not-false}
 use mathlib.Core.Path.{refl}
 use mathlib.Core.Bool.{true, false}
 use borrow.Author.Needs.{needs}
-use Rattle.graph.specs.Reading.{few-of}
+use Rattle.graph.specs.Reading.{accepted-of}
 use Rattle.graph.specs.Weights.{outer-is}
 use Rattle.graph.proofs.edges.outer_edge.Statement.{statement}
 use Rattle.graph.proofs.edges.outer_edge.Tie as tie
@@ -13,13 +13,13 @@ side-at-requires : tie.Need-side-at-requires
 side-at-requires c κs = search needs
 
 has-beyond-requires : tie.Need-has-beyond-requires
-has-beyond-requires c κs = omega (arith, few-of (c .before .before .pre .0) .some-rows, few-of (c .before .before .pre .0) .few, c .before .before .pre .1)
+has-beyond-requires c κs = omega (arith, accepted-of (c .before .before .pre .0) .some-rows, accepted-of (c .before .before .pre .0) .few-sectors, c .before .before .pre .1)
 
 returns : tie.Need-returns
 returns c = outer-is (c .before .before .before .before .pre .0) (c .before .before .before .before .args .p) false _ (c .before .before .side-at .ensures) (c .before .has-beyond .ensures) (not-true _ (c .if1 .taken)) refl refl refl
 
 facing-requires : tie.Need-facing-requires
-facing-requires c κs = let o = c .before .before .before .before .pre in omega (arith, few-of (o .0) .few-rows, few-of (o .0) .few, o .1)
+facing-requires c κs = let o = c .before .before .before .before .pre in omega (arith, accepted-of (o .0) .few-rows, accepted-of (o .0) .few-sectors, o .1)
 
 is-portal-requires : tie.Need-is-portal-requires
 is-portal-requires c κs = search needs

@@ -9,7 +9,7 @@ use Rattle.model.specs.Moves.{moves}
 use Rattle.model.specs.Sectors.{sectorOf, placeOf, costsOf}
 use Rattle.model.specs.Store.{decode}
 use Rattle.moves.specs.Levels.{openWords}
-use Rattle.graph.specs.Reading.{few-of}
+use Rattle.graph.specs.Reading.{accepted-of, room-of}
 use Rattle.graph.specs.Weights.{costs-part}
 use borrow.Author.Needs.{needs}
 use Rattle.graph.proofs.near.moves_from.Statement.{statement}
@@ -34,10 +34,10 @@ mul-start : tie.Need-mul-start
 mul-start c = search needs
 
 add-start-2 : tie.Need-add-start-2
-add-start-2 c = omega (arith, c .cells .ensures, few-of (S c .pre .0) .few, S c .pre)
+add-start-2 c = omega (arith, c .cells .ensures, accepted-of (S c .pre .0) .few-sectors, S c .pre)
 
 add-end : tie.Need-add-end
-add-end c = omega (arith, c .cells .ensures, few-of (S c .pre .0) .few, S c .pre)
+add-end c = omega (arith, c .cells .ensures, accepted-of (S c .pre .0) .few-sectors, S c .pre)
 
 sub-spread : tie.Need-sub-spread
 sub-spread c = search needs
@@ -46,7 +46,7 @@ part-spread-start : tie.Need-part-spread-start
 part-spread-start c = search needs
 
 part-spread-end : tie.Need-part-spread-end
-part-spread-end c = omega (arith, c .cells .ensures, few-of (S c .pre .0) .room, S c .pre)
+part-spread-end c = omega (arith, c .cells .ensures, room-of (S c .pre .0), S c .pre)
 
 spread-requires : tie.Need-spread-requires
 spread-requires c κs = let at = c .before .before in (search needs, S at .pre .2 ∙ ap openWords (sym (part at)), omega arith, S at .pre .3)

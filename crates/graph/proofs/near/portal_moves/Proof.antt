@@ -5,7 +5,7 @@ use mathlib.Core.Path.{refl}
 use lib.ListN.{getD}
 use Rattle.laws.specs.Table.{Tabled, tabling}
 use Rattle.moves.specs.Levels.{movesIn}
-use Rattle.graph.specs.Reading.{few-of}
+use Rattle.graph.specs.Reading.{accepted-of}
 use Rattle.graph.specs.Near.{nearBy, near-list}
 use borrow.Author.Needs.{needs}
 use Rattle.graph.proofs.near.portal_moves.Statement.{statement}
@@ -36,7 +36,7 @@ slice-aggregate-sector-mids : tie.Need-slice-aggregate-sector-mids Inv-loop μ-l
 slice-aggregate-sector-mids c = search needs
 
 sector-mids-requires : tie.Need-sector-mids-requires Inv-loop μ-loop
-sector-mids-requires c κs = let start = c .before .before .before .before .before .before .before .before .before .before in (start .pre .0, omega (arith, few-of (start .pre .0) .few, start .pre .1), refl)
+sector-mids-requires c κs = let start = c .before .before .before .before .before .before .before .before .before .before in (start .pre .0, omega (arith, accepted-of (start .pre .0) .few-sectors, start .pre .1), refl)
 
 loop-holds : tie.Need-loop-holds Inv-loop μ-loop
 loop-holds c = search (needs, tabling)

@@ -3,7 +3,7 @@ use Prim.Native.Nat.{_+_, _-_, _*_}
 use native.Mathlib.Omega.{arith}
 use mathlib.Core.Path.{ap, _∙_}
 use Rattle.moves.specs.Levels.{openWords}
-use Rattle.graph.specs.Reading.{few-of}
+use Rattle.graph.specs.Reading.{accepted-of, room-of}
 use Rattle.graph.specs.Weights.{costs-part}
 use borrow.Author.Needs.{needs}
 use Rattle.graph.proofs.near.sector_words.Statement.{statement}
@@ -19,10 +19,10 @@ mul-start : tie.Need-mul-start
 mul-start c = search needs
 
 add-start-2 : tie.Need-add-start-2
-add-start-2 c = omega (arith, c .cells .ensures, few-of (c .before .before .before .pre .0) .few, c .before .before .before .pre)
+add-start-2 c = omega (arith, c .cells .ensures, accepted-of (c .before .before .before .pre .0) .few-sectors, c .before .before .before .pre)
 
 add-end : tie.Need-add-end
-add-end c = omega (arith, c .cells .ensures, few-of (c .before .before .before .pre .0) .few, c .before .before .before .pre)
+add-end c = omega (arith, c .cells .ensures, accepted-of (c .before .before .before .pre .0) .few-sectors, c .before .before .before .pre)
 
 sub-open-words : tie.Need-sub-open-words
 sub-open-words c = search needs
@@ -31,7 +31,7 @@ part-open-words-start : tie.Need-part-open-words-start
 part-open-words-start c = search needs
 
 part-open-words-end : tie.Need-part-open-words-end
-part-open-words-end c = omega (arith, c .cells .ensures, few-of (c .before .before .before .pre .0) .room, c .before .before .before .pre)
+part-open-words-end c = omega (arith, c .cells .ensures, room-of (c .before .before .before .pre .0), c .before .before .before .pre)
 
 open-words-requires : tie.Need-open-words-requires
 open-words-requires c κs = search needs

@@ -2,7 +2,7 @@
 use native.Mathlib.Omega.{arith}
 use mathlib.Core.Logic.{⊎-elim}
 use borrow.Author.Needs.{needs}
-use Rattle.graph.specs.Reading.{few-of}
+use Rattle.graph.specs.Reading.{accepted-of}
 use Rattle.graph.specs.Following.{better-none, better-some}
 use Rattle.graph.proofs.path.better.Statement.{statement}
 use Rattle.graph.proofs.path.better.Tie as tie
@@ -11,7 +11,7 @@ sectors-requires : tie.Need-sectors-requires
 sectors-requires c κs = search needs
 
 mul-if1 : tie.Need-mul-if1
-mul-if1 c = omega (arith, c .sectors .ensures, few-of (c .before .before .pre .0) .few)
+mul-if1 c = omega (arith, c .sectors .ensures, accepted-of (c .before .before .pre .0) .few-sectors)
 
 returns : tie.Need-returns
 returns c = λ table. better-none _ table _ _ _ (omega (arith, c .if1 .taken, c .before .sectors .ensures))

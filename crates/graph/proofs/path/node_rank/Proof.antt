@@ -10,7 +10,7 @@ use Rattle.model.specs.Portals.{portalMark}
 use Rattle.model.specs.LeastPath.{cellRank}
 use Rattle.model.specs.Store.{decode}
 use Rattle.graph.specs.Across.{portal-of}
-use Rattle.graph.specs.Reading.{Places, few-of, portal-sector, places-of}
+use Rattle.graph.specs.Reading.{Places, accepted-of, portal-sector, places-of}
 use Rattle.graph.specs.Following.{rank-is}
 use Rattle.graph.proofs.path.node_rank.Statement.{statement}
 use Rattle.graph.proofs.path.node_rank.Tie as tie
@@ -22,7 +22,7 @@ found : (c : tie.After-window-at) → Places (portalMark (decode (now (S c .args
 found c = places-of (S c .pre .0) (S c .args .p) (S c .pre .1) (c .before .mark-of .ensures .0) (c .window-at .ensures)
 
 sector : (c : tie.After-border-rank2) → S (c .before .before) .args .p / 20 < 100
-sector c = let start = S (c .before .before) in omega (arith, portal-sector (start .pre .0) (start .args .p) (start .pre .1), few-of (start .pre .0) .few)
+sector c = let start = S (c .before .before) in omega (arith, portal-sector (start .pre .0) (start .args .p) (start .pre .1), accepted-of (start .pre .0) .few-sectors)
 
 side-at-requires : tie.Need-side-at-requires
 side-at-requires c κs = search needs

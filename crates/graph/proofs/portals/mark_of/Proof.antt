@@ -5,7 +5,7 @@ use Prim.Native.Nat.{ℕ, _+_, _*_, _/_}
 use denote.Ref.{now}
 use Rattle.model.specs.Store.{u16At}
 use borrow.Author.Needs.{needs}
-use Rattle.graph.specs.Reading.{few-of, mark-read, mark-low}
+use Rattle.graph.specs.Reading.{accepted-of, room-of, mark-read, mark-low}
 use Rattle.graph.proofs.portals.mark_of.Statement.{statement}
 use Rattle.graph.proofs.portals.mark_of.Tie as tie
 
@@ -13,19 +13,19 @@ cells-requires : tie.Need-cells-requires
 cells-requires c κs = search needs
 
 mul-u16-at : tie.Need-mul-u16-at
-mul-u16-at c = omega (arith, c .cells .ensures, few-of (c .before .before .pre .0) .few)
+mul-u16-at c = omega (arith, c .cells .ensures, accepted-of (c .before .before .pre .0) .few-sectors)
 
 add-u16-at : tie.Need-add-u16-at
-add-u16-at c = omega (arith, c .cells .ensures, few-of (c .before .before .pre .0) .few)
+add-u16-at c = omega (arith, c .cells .ensures, accepted-of (c .before .before .pre .0) .few-sectors)
 
 mul-u16-at-2 : tie.Need-mul-u16-at-2
 mul-u16-at-2 c = search needs
 
 add-u16-at-2 : tie.Need-add-u16-at-2
-add-u16-at-2 c = omega (arith, c .cells .ensures, few-of (c .before .before .pre .0) .few, c .before .before .pre .1)
+add-u16-at-2 c = omega (arith, c .cells .ensures, accepted-of (c .before .before .pre .0) .few-sectors, c .before .before .pre .1)
 
 u16-at-requires : tie.Need-u16-at-requires
-u16-at-requires c κs = omega (arith, c .cells .ensures, few-of (c .before .before .pre .0) .room, c .before .before .pre .1)
+u16-at-requires c κs = omega (arith, c .cells .ensures, room-of (c .before .before .pre .0), c .before .before .pre .1)
 
 cast-result : tie.Need-cast-result
 cast-result c = search needs

@@ -4,7 +4,7 @@ use mathlib.Core.Path.{sym, ap, _∙_}
 use denote.Ref.{now}
 use Rattle.model.specs.declared.Measures.{Measures}
 use Rattle.model.specs.Route.{Found}
-use Rattle.graph.specs.Reading.{few-of, measures-are}
+use Rattle.graph.specs.Reading.{accepted-of, measures-are}
 use Rattle.route.specs.Finding.{foundAnswer, foundInto, lastRoute, apart-found, joined-found}
 use borrow.Author.Needs.{needs}
 use Rattle.route.proofs.find.find_path.Statement.{statement}
@@ -27,7 +27,7 @@ returns c =
     (call .ensures .0 ∙ ap (foundAnswer _) e, call .ensures .1 ∙ ap (λ (x : Found). foundInto x (now (told .before .before .before .args .list))) e)
 
 one-step-requires : tie.Need-one-step-requires
-one-step-requires c κs = let start = c .before .before .before .before .before in let few = few-of (start .pre .0) in (few .some-rows, few .few, start .pre .2)
+one-step-requires c κs = let start = c .before .before .before .before .before in let few = accepted-of (start .pre .0) in (few .some-rows, few .few-sectors, start .pre .2)
 
 same-length-2 : tie.Need-same-length-2
 same-length-2 c = search needs

@@ -12,7 +12,7 @@ use Rattle.model.specs.LeastPath.{unlinked, keysTo}
 use Rattle.model.specs.LeastPathFirst.{Fits}
 use Rattle.model.specs.Store.{decode}
 use Rattle.graph.specs.Across.{portal-of}
-use Rattle.graph.specs.Reading.{few-of, fits-of, measures-are}
+use Rattle.graph.specs.Reading.{accepted-of, fits-of, measures-are}
 use Rattle.graph.specs.Following.{Linked, graph-is, searched-of, searched-both-ways}
 use Rattle.route.specs.Finding.{taken-few, taken-path, pair-no-room, pair-written}
 use borrow.Author.Needs.{needs}
@@ -58,7 +58,7 @@ least-path-requires : tie.Need-least-path-requires
 least-path-requires c κs =
     let k = c .before .before .before .before in
     let s = S k in
-    ((linked k, start-low s, rw (keys-are k) (s .pre .1 .linked), omega (arith, few-of (s .pre .0 .opened) .few)), (s .args .e, omega (arith, s .pre .1 .end, same-sectors s), keys-are k))
+    ((linked k, start-low s, rw (keys-are k) (s .pre .1 .linked), omega (arith, accepted-of (s .pre .0 .opened) .few-sectors)), (s .args .e, omega (arith, s .pre .1 .end, same-sectors s), keys-are k))
 
 step-count-requires : tie.Need-step-count-requires
 step-count-requires c κs = search needs
@@ -86,7 +86,7 @@ cast-t28 : tie.Need-cast-t28
 cast-t28 c = let counted = c .before .before .before .before .before .before in omega (arith, counted .step-count .ensures, few-portals (counted .before .before))
 
 mul-t21 : tie.Need-mul-t21
-mul-t21 c = let s = S (K (c .before .before .before .before .before .before .before .before)) in omega (arith, start-low s, few-of (s .pre .0 .opened) .few)
+mul-t21 c = let s = S (K (c .before .before .before .before .before .before .before .before)) in omega (arith, start-low s, accepted-of (s .pre .0 .opened) .few-sectors)
 
 slice-read-t31 : tie.Need-slice-read-t31
 slice-read-t31 c = let k = K (c .before .before .before .before .before .before .before .before .before) in omega (arith, start-low (S k), linked k .numbers)

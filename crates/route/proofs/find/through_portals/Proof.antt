@@ -2,7 +2,7 @@
 use native.Mathlib.Omega.{arith}
 use Prim.Native.Nat.{_≤_}
 use lib.ListN.{length-take}
-use Rattle.graph.specs.Reading.{few-of}
+use Rattle.graph.specs.Reading.{accepted-of}
 use borrow.Author.Needs.{needs}
 use Rattle.route.proofs.find.through_portals.Statement.{statement}
 use Rattle.route.proofs.find.through_portals.Tie as tie
@@ -17,7 +17,7 @@ sectors-requires : tie.Need-sectors-requires
 sectors-requires c κs = search needs
 
 low : (c : tie.After-sectors) → c .sectors .result ≤ 100
-low c = omega (arith, c .sectors .ensures, few-of (c .before .before .before .before .before .pre .0) .few)
+low c = omega (arith, c .sectors .ensures, accepted-of (c .before .before .before .before .before .pre .0) .few-sectors)
 
 mul-arcs : tie.Need-mul-arcs
 mul-arcs c = omega (arith, low c)

@@ -16,7 +16,7 @@ use Rattle.model.specs.Portals.{portalSector, portalSide, portalWindow, portalM
 use Rattle.model.specs.Route.{stepAt}
 use Rattle.model.specs.Store.{decode}
 use Rattle.graph.specs.Across.{portal-of}
-use Rattle.graph.specs.Reading.{measures-are, few-of, portal-sector}
+use Rattle.graph.specs.Reading.{measures-are, accepted-of, portal-sector}
 use Rattle.route.proofs.steps.step_at.Statement.{statement}
 use Rattle.route.proofs.steps.step_at.Tie as tie
 
@@ -29,8 +29,8 @@ step-is h p e s g d k w = rw (s, ← e, g, w, d, k)
 sector-at-requires : tie.Need-sector-at-requires
 sector-at-requires c κs =
     let start = c .before in
-    let few = few-of (start .pre .0) in
-    (few .some-rows, omega (arith, portal-sector (start .pre .0) (start .args .p) (start .pre .1), few .few))
+    let few = accepted-of (start .pre .0) in
+    (few .some-rows, omega (arith, portal-sector (start .pre .0) (start .args .p) (start .pre .1), few .few-sectors))
 
 midpoint-requires : tie.Need-midpoint-requires
 midpoint-requires c κs = search needs

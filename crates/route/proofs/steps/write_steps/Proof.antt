@@ -15,7 +15,7 @@ use Rattle.model.specs.Steps.{lastStep}
 use Rattle.model.specs.Portals.{isPortal, portalSector}
 use Rattle.model.specs.Route.{stepAt}
 use Rattle.model.specs.Store.{decode}
-use Rattle.graph.specs.Reading.{measures-are, few-of, portal-sector}
+use Rattle.graph.specs.Reading.{measures-are, accepted-of, portal-sector}
 use Rattle.route.specs.Stepping.{Stepped, stepped-none, stepped-turn, stepped-end}
 use Rattle.route.proofs.steps.write_steps.Statement.{statement}
 use Rattle.route.proofs.steps.write_steps.Tie as tie
@@ -43,7 +43,7 @@ module _ (c : tie.At-loop Inv-loop μ-loop) (k : ℕ) (l : k < S c .args .n) whe
   portal-at = rw (← in-path) (S c .pre .2 .each k (omega (arith, long c)))
 
   sector-low : getD (now (S c .args .nodes)) k 0 / 20 < 256
-  sector-low = omega (arith, portal-sector (S c .pre .0) (getD (now (S c .args .nodes)) k 0) portal-at, few-of (S c .pre .0) .few)
+  sector-low = omega (arith, portal-sector (S c .pre .0) (getD (now (S c .args .nodes)) k 0) portal-at, accepted-of (S c .pre .0) .few-sectors)
 
   fits-at : Fits w64 (getD (now (S c .args .nodes)) k 0)
   fits-at = omega (arith, sector-low)
@@ -120,7 +120,7 @@ part-write-last-end c = search needs
 write-last-requires : tie.Need-write-last-requires Inv-loop μ-loop
 write-last-requires c κs =
     let at = c .before .before .before in
-    (few-of (S at .pre .0) .some-rows, sector-low at _ (omega (arith, some at)), simp (length-take, length-drop) (omega (arith, at .loop .inv .same, S at .pre .3)))
+    (accepted-of (S at .pre .0) .some-rows, sector-low at _ (omega (arith, some at)), simp (length-take, length-drop) (omega (arith, at .loop .inv .same, S at .pre .3)))
 
 same-length : tie.Need-same-length Inv-loop μ-loop
 same-length c = search needs

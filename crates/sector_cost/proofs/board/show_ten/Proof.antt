@@ -18,7 +18,7 @@ fits c =
     omega (arith, row-fits (start c .pre .0) (a .y) (a .c) 9 (search needs) (search needs) (omega arith), ap (λ (r : ℕ). a .c * r) (c .wide .ensures .0))
 
 few : (c : tie.After-wide) → length (now (start c .args .costs)) ≤ 10000
-few c = omega (arith, start c .pre .0 .long, start c .pre .0 .few)
+few c = omega (arith, start c .pre .0 .long, start c .pre .0 .measures .few-sectors)
 
 wide-requires : tie.Need-wide-requires
 wide-requires c κs = search needs
@@ -54,7 +54,7 @@ add-b-3 : tie.Need-add-b-3
 add-b-3 c = search needs
 
 copy-part-requires : tie.Need-copy-part-requires
-copy-part-requires c κs = (fits (c .before), omega (arith, start (c .before) .pre .0 .small .wide, start (c .before) .pre .0 .small .tall, start (c .before) .pre .3 .passed .long))
+copy-part-requires c κs = (fits (c .before), omega (arith, start (c .before) .pre .0 .measures .few-columns, start (c .before) .pre .0 .measures .few-rows, start (c .before) .pre .3 .passed .long))
 
 same-length : tie.Need-same-length
 same-length c = search needs

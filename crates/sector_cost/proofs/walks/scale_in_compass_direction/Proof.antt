@@ -23,7 +23,7 @@ passed : (c : tie.After-walk-line) → let a = start c .args in c .walk-line .re
 passed c = walk-passes (start c .pre .0) (start c .args .d) (search needs) (c .before .before .stride .ensures .0) (sought c)
 
 few : (c : tie.After-walk-line) → c .walk-line .result .passed ≤ 9
-few c = let w = sought c in omega (arith, first-le (blockedOn (now (start c .args .board)) (spot (start c .args .o) (start c .args .i)) (c .before .before .stride .result)) (start c .args .m .scale), w .at, start c .pre .0 .costs .scale)
+few c = let w = sought c in omega (arith, first-le (blockedOn (now (start c .args .board)) (spot (start c .args .o) (start c .args .i)) (c .before .before .stride .result)) (start c .args .m .scale), w .at, start c .pre .0 .costs .measures .few-scale)
 
 mul-walk-line : tie.Need-mul-walk-line
 mul-walk-line c = search needs
@@ -43,7 +43,7 @@ wide-requires c κs = search needs
 walk-line-requires : tie.Need-walk-line-requires
 walk-line-requires c κs =
     let p = c .before .before .before .before .before .pre .0 in
-    (on-board p (c .before .before .before .before .before .args .d) (search needs) (c .before .stride .ensures .0) _ (omega (arith, c .wide .ensures .0, p .costs .scale)), omega (arith, shows-long p), search needs)
+    (on-board p (c .before .before .before .before .before .args .d) (search needs) (c .before .stride .ensures .0) _ (omega (arith, c .wide .ensures .0, p .costs .measures .few-scale)), omega (arith, shows-long p), search needs)
 
 block-passed-requires : tie.Need-block-passed-requires
 block-passed-requires c κs =

@@ -1,5 +1,5 @@
 -- `bad_scale` answers refusal 12.
-use Rattle.model.specs.Calls.{badScale}
+use Rattle.model.specs.Accepted.{badScale}
 use borrow.Author.Needs.{needs}
 use Rattle.store.proofs.check.bad_scale.Statement.{statement}
 use Rattle.store.proofs.check.bad_scale.Tie as tie

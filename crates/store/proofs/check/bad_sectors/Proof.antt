@@ -1,5 +1,5 @@
 -- `bad_sectors` answers refusal 11: columns first, then rows.
-use Rattle.model.specs.Calls.{badSectors}
+use Rattle.model.specs.Accepted.{badSectors}
 use borrow.Author.Needs.{needs}
 use Rattle.store.proofs.check.bad_sectors.Statement.{statement}
 use Rattle.store.proofs.check.bad_sectors.Tie as tie

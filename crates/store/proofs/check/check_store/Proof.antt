@@ -1,8 +1,9 @@
 -- `check_store` climbs the ladder of the store check: each return goes by what the tests before it found.
 use borrow.Author.Tests.{lt-ltb, le-ltb, ltb-false}
 use Rattle.laws.specs.Ladder.{refuse-here, refuse-past, flag}
+use Rattle.model.specs.Accepted.{accepted}
 use Rattle.model.specs.Calls.{checkNumber}
-use Rattle.store.specs.Checks.{sized, sectors-found, scale-found, room-found, marks-found}
+use Rattle.store.specs.Checks.{sectors-found, scale-found, room-found, marks-found}
 use borrow.Author.Needs.{needs}
 use Rattle.store.proofs.check.check_store.Statement.{statement}
 use Rattle.store.proofs.check.check_store.Tie as tie
@@ -43,7 +44,7 @@ unfolding checkNumber
 returns-5 c = search (needs, refuse-here, refuse-past, le-ltb, sectors-found, scale-found, room-found) depth 20
 
 any-bad-mark-requires : tie.Need-any-bad-mark-requires
-any-bad-mark-requires c κs = search (needs, sized, ltb-false, flag)
+any-bad-mark-requires c κs = search (needs, accepted, ltb-false, flag)
 
 returns-6 : tie.Need-returns-6
 unfolding checkNumber
