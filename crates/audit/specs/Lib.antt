@@ -9,6 +9,8 @@ pub mod Gates
 pub mod RoutePromise
 pub mod ChangeAtOne
 pub mod StoreAfter
+pub mod Reached
 pub mod Walks
+pub mod Claim
 pub mod Demand3
 pub mod Worked

@@ -1,4 +1,4 @@
--- The store after build and any list of calls is the build of the account, as long as a change is accepted only at scale 1.
+-- A store that build wrote: it holds the hall, and passes the check. One change of it: at scale 1 the store is then what build of the altered base costs writes.
 use Prim.Native.Nat.{ℕ, zero, suc, _*_, _/_, _%_, _≤_, _<_}
 use native.Mathlib.Omega.{arith}
 use mathlib.Core.Path.{_≡_, refl, sym, ap, _∙_}

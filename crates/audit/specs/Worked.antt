@@ -14,7 +14,9 @@ use Rattle.model.specs.Store.{sizeOf}
 use Rattle.model.specs.Calls.{buildInto, routeAnswer, storeAfter}
 use Rattle.model.specs.Computing.{computing}
 use Rattle.audit.specs.Starred.{hall, floor}
-use Rattle.audit.specs.Demand3.{opening, Claim, demand-3}
+use Rattle.audit.specs.Reached.{opening}
+use Rattle.audit.specs.Claim.{Claim}
+use Rattle.audit.specs.Demand3.{demand-3}
 
 -- ---- 2 by 1, all open, then three calls: one change, one that is refused, and a route call
 abbrev base : List ℕ
@@ -29,7 +31,7 @@ list = change 0 255 ∷ change 200 1 ∷ route 5 7 1 ∷ []
 -- the premises hold, so the theorem speaks of 99 to 190
 claims : Claim (accountAfter (opening (hall 2 1 1) base) list) 99 190 (routeAnswer (storeAfter (buildInto (hall 2 1 1) base lent) list) 99 190 1001)
 unfolding computing
-claims = demand-3 (hall 2 1 1) base lent refl list (λ before n cost rest e k. refl) 99 190 1001 (λ e. omega arith) refl (omega arith)
+claims = demand-3 (hall 2 1 1) base lent list 99 190 1001 .promised refl (λ before n cost rest e k. refl) (record { differ = λ e. omega arith; apart = refl; roomy = omega arith })
 
 -- the route given, and a walk of one move over one border
 given : routeAnswer (storeAfter (buildInto (hall 2 1 1) base lent) list) 99 190 1001 ≡ Route 2 5 6

@@ -14,7 +14,9 @@ use Rattle.model.specs.Account.{Call}
 use Rattle.model.specs.Calls.{ifAccepted, buildNumber, buildInto, changeInto, routeAnswer, routeFlat, storeAfterCall, storeAfter}
 use Rattle.hall.proofs.Passed.{none, not-accepted}
 use Rattle.hall.proofs.Building.{build-kept}
-use Rattle.journey.specs.Journey.{callOf, callsIn, stepsAfterCall, stepsAfter, journeyAnswer, journeyInto, journeySteps}
+use Rattle.audit.specs.Claim.{Demand3}
+use Rattle.journey.specs.Journey.{callOf, callsIn, stepsAfterCall, stepsAfter, reachSteps, journeyAnswer, journeyInto, journeySteps}
+use Rattle.journey.specs.Parts.{Reaches, ClaimsReached, parts-promise, refused-promise}
 
 -- ---- one call
 module _ (room kind a b : ℕ) (st steps : List ℕ) where
@@ -49,7 +51,8 @@ pub made-none : (calls st steps : List ℕ) → Made calls 0 st steps st steps
 made-none calls st steps = record { within = omega arith; same-store = refl; same-steps = refl; to-store = refl; to-steps = refl }
 
 -- the next call, where three numbers are left, and none where there are fewer
-next-call : (room : ℕ) (calls : List ℕ) (at : ℕ) → at + 3 ≤ length calls → callsIn room (drop at calls) ≡ callOf room (getD calls at 0) (getD calls (at + 1) 0) (getD calls (at + 2) 0) ∷ callsIn room (drop (at + 3) calls)
+next-call : (room : ℕ) (calls : List ℕ) (at : ℕ) → at + 3 ≤ length calls
+    → callsIn room (drop at calls) ≡ callOf room (getD calls at 0) (getD calls (at + 1) 0) (getD calls (at + 2) 0) ∷ callsIn room (drop (at + 3) calls)
 unfolding callsIn
 next-call room calls at h =
     let one : at + 1 ≡ suc at = omega arith in
@@ -76,7 +79,13 @@ module _ {calls : List ℕ} {at : ℕ} {st₀ steps₀ st steps : List ℕ} (m :
       let next = next-call room calls at (omega arith) in
       let st-is : st' ≡ storeAfterCall st c = e ∙ rw (m .same-steps) in
       let steps-is : steps' ≡ stepsAfterCall st c steps = f ∙ rw (m .same-steps) in
-      record { within = omega arith; same-store = k ∙ m .same-store; same-steps = l ∙ m .same-steps; to-store = rw st-is (rw next at (m .to-store)); to-steps = rw (st-is, steps-is) (rw next at (m .to-steps)) }
+      record {
+        within = omega arith;
+        same-store = k ∙ m .same-store;
+        same-steps = l ∙ m .same-steps;
+        to-store = rw st-is (rw next at (m .to-store));
+        to-steps = rw (st-is, steps-is) (rw next at (m .to-steps));
+      }
 
   -- fewer than three numbers are left
   at-end : length calls - at < 3 → callsIn (length steps₀ / 6) (drop at calls) ≡ []
@@ -92,37 +101,67 @@ module _ {calls : List ℕ} {at : ℕ} {st₀ steps₀ st steps : List ℕ} (m :
 
 pub ruleset making = (made-none, made-turn, made-store, made-steps)
 
--- ---- build, the calls, and the last route call
-module _ (m : Measures) (base lent : List ℕ) (list : List Call) (source goal : ℕ) (steps : List ℕ) {number : ℕ} (is : number ≡ buildNumber m base lent) where
+-- ---- build and the calls
+module _ (m : Measures) (base lent : List ℕ) (list : List Call) (steps : List ℕ) {number : ℕ} (is : number ≡ buildNumber m base lent) where
   -- build refuses
+  module _ (refused : 0 < number) where
+    pub refused-store : {out : List ℕ} → out ≡ buildInto m base lent → out ≡ journeyInto m base lent list
+    unfolding journeyInto
+    refused-store e = e ∙ sym (build-kept m base lent is refused) ∙ rw (← is) (not-accepted number (storeAfter (buildInto m base lent) list) lent refused)
+
+    pub refused-steps : steps ≡ reachSteps m base lent list steps
+    unfolding reachSteps
+    refused-steps = rw (← is) (not-accepted number (stepsAfter (buildInto m base lent) list steps) steps refused)
+
+  -- build accepts: `first` is the store that it leaves
+  module _ (accepted : number ≤ 0) where
+    pub accepted-answer : 0 ≡ buildNumber m base lent
+    accepted-answer = sym (none accepted) ∙ is
+
+    module _ {first : List ℕ} (built : first ≡ buildInto m base lent) where
+      pub reached-store : {st : List ℕ} → st ≡ storeAfter first list → st ≡ journeyInto m base lent list
+      unfolding journeyInto ifAccepted
+      reached-store e = e ∙ rw (← accepted-answer, built)
+
+      pub reached-steps : {used : List ℕ} → used ≡ stepsAfter first list steps → used ≡ reachSteps m base lent list steps
+      unfolding reachSteps ifAccepted
+      reached-steps e = e ∙ rw (← accepted-answer, built)
+
+pub ruleset reaching = (refused-store, refused-steps, accepted-answer, reached-store, reached-steps)
+
+-- ---- the last route call
+module _ (m : Measures) (base lent : List ℕ) (list : List Call) (steps : List ℕ) (source goal : ℕ) {number : ℕ} (is : number ≡ buildNumber m base lent) where
   module _ (refused : 0 < number) where
     pub refused-answer : Refused number ≡ journeyAnswer m base lent list source goal (length steps / 6)
     unfolding journeyAnswer
     refused-answer = rw (← is) (not-accepted number (routeAnswer (storeAfter (buildInto m base lent) list) source goal (length steps / 6)) (Refused number) refused)
 
-    pub refused-store : {out : List ℕ} → out ≡ buildInto m base lent → out ≡ journeyInto m base lent list
-    unfolding journeyInto
-    refused-store e = e ∙ sym (build-kept m base lent is refused) ∙ rw (← is) (not-accepted number (storeAfter (buildInto m base lent) list) lent refused)
-
-    pub refused-steps : steps ≡ journeySteps m base lent list source goal steps
+    pub refused-last : {out : List ℕ} → out ≡ reachSteps m base lent list steps → out ≡ journeySteps m base lent list source goal steps
     unfolding journeySteps
-    refused-steps = rw (← is) (not-accepted number (routeFlat (storeAfter (buildInto m base lent) list) source goal (stepsAfter (buildInto m base lent) list steps)) steps refused)
+    refused-last e = e ∙ sym (refused-steps m base lent list steps is refused) ∙ kept
+      where
+        kept : steps ≡ ifAccepted (buildNumber m base lent) (routeFlat (storeAfter (buildInto m base lent) list) source goal (stepsAfter (buildInto m base lent) list steps)) steps
+        kept = rw (← is) (not-accepted number (routeFlat (storeAfter (buildInto m base lent) list) source goal (stepsAfter (buildInto m base lent) list steps)) steps refused)
 
-  -- build accepts: `first` is the store that it leaves, `st` with `used` what the calls leave of store and step list
-  module _ (accepted : number ≤ 0) {first st : List ℕ} (built : first ≡ buildInto m base lent) (made : st ≡ storeAfter first list) where
+    pub refused-keeps : {r : Routed} → Demand3 m base lent list source goal (length steps / 6) r
+    refused-keeps = refused-promise (rw is at refused)
+
+  -- build accepts: `st` with `used` is what the calls leave of store and step list
+  module _ (accepted : number ≤ 0) {st : List ℕ} (made : st ≡ journeyInto m base lent list) where
     build-0 : buildNumber m base lent ≡ 0
     build-0 = sym is ∙ none accepted
 
     pub asked-answer : (used : List ℕ) {r : Routed} → r ≡ routeAnswer st source goal (length used / 6) → length used ≡ length steps → r ≡ journeyAnswer m base lent list source goal (length steps / 6)
-    unfolding journeyAnswer ifAccepted
-    asked-answer used e same = e ∙ rw (build-0, made, built, same)
+    unfolding journeyAnswer journeyInto ifAccepted
+    asked-answer used e same = e ∙ rw (made, build-0, same)
 
-    pub asked-store : st ≡ journeyInto m base lent list
-    unfolding journeyInto ifAccepted
-    asked-store = made ∙ rw (build-0, built)
+    pub asked-steps : {used out : List ℕ} → used ≡ reachSteps m base lent list steps → out ≡ routeFlat st source goal used → out ≡ journeySteps m base lent list source goal steps
+    unfolding journeySteps journeyInto reachSteps ifAccepted
+    asked-steps u e = e ∙ rw (u, made, build-0)
 
-    pub asked-steps : {used out : List ℕ} → used ≡ stepsAfter first list steps → out ≡ routeFlat st source goal used → out ≡ journeySteps m base lent list source goal steps
-    unfolding journeySteps ifAccepted
-    asked-steps u e = e ∙ rw (build-0, made, u, built)
+  pub asked-keeps : (used : List ℕ) {st : List ℕ} {r : Routed}
+      → Reaches m base lent list st → ClaimsReached st source goal (length used / 6) r → length used ≡ length steps
+      → Demand3 m base lent list source goal (length steps / 6) r
+  asked-keeps used there last same = rw (← same) (parts-promise there last)
 
-pub ruleset journeying = (refused-answer, refused-store, refused-steps, asked-answer, asked-store, asked-steps)
+pub ruleset journeying = (refused-answer, refused-last, refused-keeps, asked-answer, asked-steps, asked-keeps)

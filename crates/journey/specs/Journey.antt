@@ -46,6 +46,10 @@ journeyAnswer m base lent list source goal room =
 unfoldable pub journeyInto : Measures → List ℕ → List ℕ → List Call → List ℕ
 journeyInto m base lent list = ifAccepted (buildNumber m base lent) (storeAfter (buildInto m base lent) list) lent
 
+-- the step list before the last call
+unfoldable pub reachSteps : Measures → List ℕ → List ℕ → List Call → List ℕ → List ℕ
+reachSteps m base lent list steps = ifAccepted (buildNumber m base lent) (stepsAfter (buildInto m base lent) list steps) steps
+
 unfoldable pub journeySteps : Measures → List ℕ → List ℕ → List Call → ℕ → ℕ → List ℕ → List ℕ
 journeySteps m base lent list source goal steps =
     ifAccepted (buildNumber m base lent) (routeFlat (storeAfter (buildInto m base lent) list) source goal (stepsAfter (buildInto m base lent) list steps)) steps

@@ -1,2 +1,2 @@
 pub mod Journey
-pub mod Demand3
+pub mod Parts

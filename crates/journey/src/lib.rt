@@ -2,9 +2,10 @@
 ghost use mathlib.Core.Path.{_≡_};
 ghost use Prim.Native.Nat.{_/_};
 ghost use lib.ListN.{length};
-ghost use Rattle.model.specs.Calls.{measuresOf, storeAfterCall, storeAfter};
-ghost use Rattle.journey.specs.Journey.{callOf, callsIn, stepsAfterCall, stepsAfter, journeyAnswer, journeyInto, journeySteps};
-ghost use Rattle.journey.specs.Demand3.{Demand3};
+ghost use Rattle.model.specs.Calls.{measuresOf, buildNumber, routeAnswer, routeFlat, storeAfterCall, storeAfter};
+ghost use Rattle.audit.specs.Claim.{Demand3};
+ghost use Rattle.journey.specs.Journey.{callOf, callsIn, stepsAfterCall, stepsAfter, reachSteps, journeyAnswer, journeyInto, journeySteps};
+ghost use Rattle.journey.specs.Parts.{Reaches, ClaimsReached};
 use hall::build::build;
 use hall::change::change;
 use hall::routing::route;
@@ -34,6 +35,38 @@ fn make_calls(calls: &[u32], st: &mut [u8], steps: &mut [u8])
     }
 }
 
+// Builds a hall in a store and makes the calls of a list in turn on it. Gives build's number; where that is not 0, no call is made.
+pub fn reach(
+    columns: u8,
+    rows: u8,
+    scale: u8,
+    base: &[u8],
+    calls: &[u32],
+    st: &mut [u8],
+    steps: &mut [u8],
+) -> u8
+    ensures answer { λ r. ⌜ r ≡ buildNumber (measuresOf columns rows scale) (now (base .entry)) (now (st .entry)) ⌝ }
+    ensures store { λ _. ⌜ now (st .exit) ≡ journeyInto (measuresOf columns rows scale) (now (base .entry)) (now (st .entry)) (callsIn (length (now (steps .entry)) / 6) (now (calls .entry))) ⌝ }
+    ensures steps { λ _. ⌜ now (steps .exit) ≡ reachSteps (measuresOf columns rows scale) (now (base .entry)) (now (st .entry)) (callsIn (length (now (steps .entry)) / 6) (now (calls .entry))) (now (steps .entry)) ⌝ }
+    ensures reached { λ _. ⌜ Reaches (measuresOf columns rows scale) (now (base .entry)) (now (st .entry)) (callsIn (length (now (steps .entry)) / 6) (now (calls .entry))) (now (st .exit)) ⌝ }
+{
+    let number = build(columns, rows, scale, base, st);
+    if 0 < number {
+        return number;
+    }
+    make_calls(calls, st, steps);
+    0
+}
+
+// A route call that may come last: on a reached hall its answer keeps the claim of demand 3.
+pub fn route_reached(st: &[u8], source: usize, goal: usize, steps: &mut [u8]) -> Routed
+    ensures answer { λ r. ⌜ r ≡ routeAnswer (now (st .entry)) source goal (length (now (steps .entry)) / 6) ⌝ }
+    ensures steps { λ _. ⌜ now (steps .exit) ≡ routeFlat (now (st .entry)) source goal (now (steps .entry)) ⌝ }
+    ensures claim { λ r. ⌜ ClaimsReached (now (st .entry)) source goal (length (now (steps .entry)) / 6) r ⌝ }
+{
+    route(st, source, goal, steps)
+}
+
 // Builds a hall in a store, makes the calls of a list in turn on it, and asks for a last route. The route calls share one step list, six bytes a step.
 pub fn route_after(
     columns: u8,
@@ -51,10 +84,9 @@ pub fn route_after(
     ensures steps { λ _. ⌜ now (steps .exit) ≡ journeySteps (measuresOf columns rows scale) (now (base .entry)) (now (st .entry)) (callsIn (length (now (steps .entry)) / 6) (now (calls .entry))) source goal (now (steps .entry)) ⌝ }
     ensures demand3 { λ r. ⌜ Demand3 (measuresOf columns rows scale) (now (base .entry)) (now (st .entry)) (callsIn (length (now (steps .entry)) / 6) (now (calls .entry))) source goal (length (now (steps .entry)) / 6) r ⌝ }
 {
-    let number = build(columns, rows, scale, base, st);
+    let number = reach(columns, rows, scale, base, calls, st, steps);
     if 0 < number {
         return Routed::Refused(number);
     }
-    make_calls(calls, st, steps);
-    route(st, source, goal, steps)
+    route_reached(st, source, goal, steps)
 }

@@ -1,0 +1,17 @@
+-- `route_reached` is the route call; of its answer on a reached hall the theorem speaks.
+use Rattle.journey.specs.Parts.{answer-claims}
+use borrow.Author.Needs.{needs}
+use Rattle.journey.proofs.route_reached.Statement.{statement}
+use Rattle.journey.proofs.route_reached.Tie as tie
+
+route-requires : tie.Need-route-requires
+route-requires c κs = search needs
+
+same-length : tie.Need-same-length
+same-length c = search needs
+
+returns : tie.Need-returns
+returns c = (search needs, (search needs, answer-claims _ _ _ _ (search needs)))
+
+pub route-reached-spec : {M : Type 1} → statement M
+route-reached-spec = tie.close (tie.spec route-requires same-length returns)

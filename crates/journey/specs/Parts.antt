@@ -1,0 +1,39 @@
+-- Demand 3 in two parts: build and the calls reach a hall, and on a reached hall the last route call keeps the claim.
+use Prim.Native.Nat.{ℕ, _<_}
+use native.Mathlib.Omega.{arith}
+use mathlib.Core.Path.{_≡_}
+use mathlib.Core.List.{List}
+use Rattle.model.specs.declared.Measures.{Measures}
+use Rattle.model.specs.declared.Routed.{Routed}
+use Rattle.model.specs.Account.{Call, Account, accountAfter}
+use Rattle.model.specs.Calls.{ifAccepted, buildNumber, routeAnswer}
+use Rattle.audit.specs.Reached.{opening, ChangesOnlyAtScale1, Reached, reached}
+use Rattle.audit.specs.Claim.{LastCall, Claim, Demand3}
+use Rattle.audit.specs.Demand3.{route-claims}
+use Rattle.journey.specs.Journey.{journeyInto}
+
+-- st is what build by m and base in the store lent, and the calls of the list, leave
+pub record Reaches (m : Measures) (base lent : List ℕ) (list : List Call) (st : List ℕ) : Type 0 where
+  pub reaches : buildNumber m base lent ≡ 0 → ChangesOnlyAtScale1 m base lent list → Reached (accountAfter (opening m base) list) lent st
+
+-- r is what a route call on the store st answered
+pub record ClaimsReached (st : List ℕ) (source goal room : ℕ) (r : Routed) : Type 0 where
+  pub claims : (a : Account) (lent : List ℕ) → Reached a lent st → LastCall a source goal room → Claim a source goal r
+
+pub into-reaches : (m : Measures) (base lent : List ℕ) (list : List Call) {st : List ℕ} → st ≡ journeyInto m base lent list → Reaches m base lent list st
+unfolding journeyInto ifAccepted
+into-reaches m base lent list e = record { reaches = λ accepted only. rw (e, accepted) (reached m base lent accepted list only) }
+
+pub answer-claims : (st : List ℕ) (source goal room : ℕ) {r : Routed} → r ≡ routeAnswer st source goal room → ClaimsReached st source goal room r
+answer-claims st source goal room e = record { claims = λ a lent there asked. rw e (route-claims there asked) }
+
+-- the two parts are demand 3
+pub parts-promise : {m : Measures} {base lent : List ℕ} {list : List Call} {st : List ℕ} {source goal room : ℕ} {r : Routed}
+    → Reaches m base lent list st → ClaimsReached st source goal room r → Demand3 m base lent list source goal room r
+parts-promise {m} {base} {lent} {list} there last =
+    record { promised = λ accepted only asked. last .claims (accountAfter (opening m base) list) lent (there .reaches accepted only) asked }
+
+-- where build refuses, demand 3 says nothing
+pub refused-promise : {m : Measures} {base lent : List ℕ} {list : List Call} {source goal room : ℕ} {r : Routed}
+    → 0 < buildNumber m base lent → Demand3 m base lent list source goal room r
+refused-promise refused = record { promised = λ accepted only asked. absurd (omega arith) }
