@@ -1,7 +1,8 @@
 -- 01, item 1, by axis and sense: the cell beside over a side, and the border cells of a side.
-use Prim.Native.Nat.{ℕ, _+_, _-_, _%_, _<_}
+use Prim.Native.Nat.{ℕ, _+_, _-_, _*_, _%_, _≤_, _<_}
 use native.Mathlib.Omega.{arith}
 use mathlib.Core.Path.{_≡_, refl, sym, _∙_}
+use mathlib.Core.Logic.{_⊎_, inl, inr}
 use mathlib.Core.Bool.{Bool, true, false}
 use lib.Dec.{leb, ltb}
 use borrow.Author.Tests.{ltb-true, lt-ltb, leb-true, le-leb}
@@ -10,7 +11,7 @@ use Rattle.model.specs.declared.FieldCell.{FieldCell}
 use Rattle.model.specs.declared.Side.{Side}
 use Rattle.model.specs.declared.Side.the-variants.{North, East, South, West}
 use Rattle.model.specs.Cells.{cellAt, opposite, beside}
-use Rattle.model.specs.Sides.{Axis, Column, Row, Sense, other, turned, axis, sense, opposite-is, last, Over, over-back}
+use Rattle.model.specs.Sides.{Axis, Column, Row, Sense, other, turned, axis, sense, opposite-is, last, Room, moved, next-moved, room-or-last, Over, over-back}
 use Rattle.model.specs.Windows.{borderCell, border}
 
 -- the places of a cell
@@ -44,6 +45,26 @@ over-beside i j North l h o = rw (le-leb 10 i (omega arith)) (omega arith)
 over-beside i j East l h o = rw (lt-ltb (i % 10) 9 (omega arith)) (omega arith)
 over-beside i j South l h o = rw (lt-ltb i 90 (omega arith)) (omega arith)
 over-beside i j West l h o = rw (lt-ltb 0 (i % 10) (omega arith)) (omega arith)
+
+-- a cell without one is at the end of its sector
+cellBy : Axis → ℕ → ℕ → ℕ
+cellBy Column x y = y * 10 + x
+cellBy Row x y = x * 10 + y
+
+cell-by : (a : Axis) (x y : ℕ) → x < 10 → y < 10 → (cellBy a x y < 100) × (cellOn (cellAt (cellBy a x y)) a ≡ x) × (cellOn (cellAt (cellBy a x y)) (other a) ≡ y)
+unfolding cellBy
+cell-by Column x y l h = (omega arith, omega arith, omega arith)
+cell-by Row x y l h = (omega arith, omega arith, omega arith)
+
+pub beside-none : (i : ℕ) (k : Side) → i < 100 → 100 ≤ beside i k → cellOn (cellAt i) (axis k) ≡ last (sense k) 10
+beside-none i k l h = go (room-or-last (sense k) 10 (cellOn (cellAt i) (axis k)) (cell-low (axis k) i l))
+  where
+    go : Room (sense k) 10 (cellOn (cellAt i) (axis k)) ⊎ (cellOn (cellAt i) (axis k) ≡ last (sense k) 10) → cellOn (cellAt i) (axis k) ≡ last (sense k) 10
+    go (inl r) =
+        let n = next-moved (sense k) (cell-low (axis k) i l) r in
+        let b = cell-by (axis k) (moved (sense k) (cellOn (cellAt i) (axis k))) (cellOn (cellAt i) (other (axis k))) (n .0) (cell-low (other (axis k)) i l) in
+        absurd (omega (arith, b .0, over-beside i _ k l (b .0) (record { moves = rw (b .1) (n .1); stays = sym (b .2) })))
+    go (inr q) = q
 
 pub beside-back : (i : ℕ) (k : Side) → i < 100 → beside i k < 100 → beside (beside i k) (opposite k) ≡ i
 beside-back i k l h = over-beside (beside i k) i (opposite k) h l (over-back k (beside-over i k l h))

@@ -20,7 +20,7 @@ use Rattle.model.specs.Costs.{openAt}
 use Rattle.model.specs.Moves.{moves}
 use Rattle.moves.specs.Levels.{spot, openWords, firstWord, wordAt, Grown, cellBit, missing, movesBy, movesIn, Spread}
 use Rattle.moves.proofs.Bits.{bitAt, none-bit, cut-bit, own-bit, other-bit}
-use Rattle.moves.proofs.Words.{Out, one-spot, cells-out, open-yes, open-no, sideBit, side-there, side-none, grown-bit, grown-only, NextBit, by-side}
+use Rattle.moves.proofs.Words.{Out, fromOther, one-spot, cells-out, open-yes, open-no, sideBit, side-there, side-none, grown-bit, grown-only, NextBit, by-side}
 use Rattle.moves.proofs.Steps.{far, far-start, far-capped, far-none, far-blocked, far-open, far-before, far-next, far-still, far-few, moves-long}
 
 -- ---- levels
@@ -108,11 +108,11 @@ module _ (costs : List ℕ) (from : ℕ) (low : from < 100) (start : openAt cost
         go (inl a) =
             let half : i / 50 ≡ 0 = omega arith in
             let b = grown-bit (getD words 0 0) (wordAt l₀ d 0) (wordAt l₀ d 1 * 2 ^ 44 % 2 ^ 64) (spot i) fits in
-            rw (half, g .upper, lt-ltb i 50 a) (by-side 0 (bitAt (wordAt l₀ d 1 * 2 ^ 44) (spot i)) b (cut-bit (wordAt l₀ d 1 * 2 ^ 44) (spot i) fits ∙ sym (zero-add (bitAt (wordAt l₀ d 1 * 2 ^ 44) (spot i)))))
+            rw (half, g .upper) (by-side (fromOther l₀ d 11 0 (spot i)) b (cut-bit (wordAt l₀ d 1 * 2 ^ 44) (spot i) fits ∙ sym (zero-add (bitAt (wordAt l₀ d 1 * 2 ^ 44) (spot i)))))
         go (inr a) =
             let half : i / 50 ≡ 1 = omega arith in
             let b = grown-bit (getD words 1 0) (wordAt l₀ d 1) (wordAt l₀ d 0 / 2 ^ 44) (spot i) fits in
-            rw (half, g .lower, le-ltb i 50 a) (by-side (bitAt (wordAt l₀ d 0 / 2 ^ 44) (spot i)) 0 b (sym (add-zero (bitAt (wordAt l₀ d 0 / 2 ^ 44) (spot i)))))
+            rw (half, g .lower) (by-side (fromOther l₀ d 11 1 (spot i)) b (sym (add-zero (bitAt (wordAt l₀ d 0 / 2 ^ 44) (spot i)))))
 
     -- a cell with at most d + 1 moves
     next-yes : far costs from i ≤ d + 1 → cellBit l (d + 1) i ≡ 1
@@ -128,15 +128,15 @@ module _ (costs : List ℕ) (from : ℕ) (low : from < 100) (start : openAt cost
         go (inr h) = omega (arith, opens, next .kept, level .yes i inside h)
         go (inl h) =
             let b = far-before costs from low i d inside (omega arith) (omega arith) in
-            bit-one (omega arith) opens (next .gained (b .side) (side-there l₀ d i (level .out) inside (b .side) (b .inside) ∙ level .yes (beside i (b .side)) (b .inside) (b .near)))
+            bit-one (omega arith) opens (next .gained (b .side) (side-there l₀ d (level .out) i inside (b .side) (b .inside) ∙ level .yes (beside i (b .side)) (b .inside) (b .near)))
 
     -- and one with more
     side-off : d + 1 < far costs from i → openAt costs i ≡ true → (side : Side) → sideBit l₀ d i side ≡ 0
     side-off m o side = go (below-or (beside i side) 100)
       where
         go : (beside i side < 100) ⊎ (100 ≤ beside i side) → sideBit l₀ d i side ≡ 0
-        go (inr h) = side-none l₀ d i (level .out) inside side h
-        go (inl h) = side-there l₀ d i (level .out) inside side h ∙ level .no (beside i side) h (apart (below-or d (far costs from (beside i side))))
+        go (inr h) = side-none l₀ d (level .out) i inside side h
+        go (inl h) = side-there l₀ d (level .out) i inside side h ∙ level .no (beside i side) h (apart (below-or d (far costs from (beside i side))))
           where
             apart : (d < far costs from (beside i side)) ⊎ (far costs from (beside i side) ≤ d) → d < far costs from (beside i side)
             apart (inl n) = n

@@ -1,24 +1,24 @@
 -- A sector's cells as two words of bits: the bits of cells beside each other, the open cells, and a word that grows by the cells beside its own.
 use Prim.Native.Nat.{ℕ, zero, suc, _+_, _-_, _*_, _/_, _%_, _^_, _≤_, _<_}
-use native.Mathlib.Nat.{add-zero, zero-add}
+use native.Mathlib.Nat.{add-zero}
 use native.Mathlib.Numerals.{add-one}
 use native.Mathlib.Omega.{arith}
 use mathlib.Core.Path.{_≡_, refl, sym, ap, ap₂, _∙_}
 use mathlib.Core.Logic.{_⊎_, inl, inr}
-use mathlib.Core.Bool.{Bool, true, false}
+use mathlib.Core.Bool.{true, false}
 use mathlib.Core.List.{List}
 use lib.Bits.{bitOr, bitXor}
-use lib.Dec.{ltb, leb}
 use lib.ListN.{length, getD, set, length-set}
 use lib.Pow.{shl-exact}
 use lib.Seq.{getD-set-same, getD-set-other}
-use borrow.Author.Tests.{ltb-true, ltb-false, lt-ltb, le-ltb, leb-true, leb-false, eqb-true, eqb-false}
-use Rattle.laws.specs.Fold.{pick}
+use borrow.Author.Tests.{eqb-true, eqb-false}
 use Rattle.laws.specs.Graph.{below-or}
 use Rattle.laws.specs.Table.{table-at}
 use Rattle.model.specs.declared.Side.{Side}
 use Rattle.model.specs.declared.Side.the-variants.{North, East, South, West}
-use Rattle.model.specs.Cells.{beside}
+use Rattle.model.specs.Cells.{cellAt, beside}
+use Rattle.model.specs.Sides.{Axis, Column, Row, Sense, Lower, Higher, axis, sense, last, Over}
+use Rattle.model.specs.CellSides.{cellOn, beside-over, beside-none}
 use Rattle.model.specs.Costs.{openAt}
 use Rattle.model.specs.Windows.{isOpen}
 use Rattle.model.specs.WindowRuns.{bits-small, bits-open}
@@ -29,44 +29,7 @@ use Rattle.moves.proofs.Bits.{bitAt, and-bit, or-bit, none-bit, down-bi
 abbrev pub Out : ℕ → Type 0
 Out k = (k % 11 ≡ 10) ⊎ (55 ≤ k)
 
--- ---- the bits of cells beside each other
-spot-row : (i : ℕ) → 10 ≤ i % 50 → spot i ≡ 11 + spot (i - 10)
-spot-row i h =
-    let a : (i - 10) % 50 ≡ i % 50 - 10 = omega arith in
-    let b : (i - 10) % 10 ≡ i % 10 = omega arith in
-    rw (a, b) (row (i % 50) (i % 10) h)
-  where
-    row : (m x : ℕ) → 10 ≤ m → m / 10 * 11 + x ≡ 11 + ((m - 10) / 10 * 11 + x)
-    row m x l = omega arith
-
-spot-half : (i : ℕ) → 50 ≤ i → i < 60 → 44 + spot i ≡ spot (i - 10)
-spot-half i h k =
-    let a : i % 50 / 10 ≡ 0 = omega arith in
-    let b : (i - 10) % 50 / 10 ≡ 4 = omega arith in
-    let c : (i - 10) % 10 ≡ i % 10 = omega arith in
-    rw (a, b, c) (omega arith)
-
-spot-next : (i : ℕ) → i % 10 < 9 → 1 + spot i ≡ spot (i + 1)
-spot-next i h =
-    let a : (i + 1) % 50 / 10 ≡ i % 50 / 10 = column (i / 50) (i % 50) (omega arith) (omega arith) (omega arith) in
-    let b : (i + 1) % 10 ≡ i % 10 + 1 = omega arith in
-    rw (a, b) (omega arith)
-  where
-    column : (h m : ℕ) {j : ℕ} → m < 50 → m % 10 < 9 → j ≡ h * 50 + m + 1 → j % 50 / 10 ≡ m / 10
-    column h m {j} l c e = let z : j % 50 ≡ m + 1 = omega arith in rw z (omega arith)
-
-spot-first : (i : ℕ) → i % 10 ≡ 0 → 0 < spot i → (spot i - 1) % 11 ≡ 10
-spot-first i h l = go (i % 50 / 10) (i % 10) h l
-  where
-    go : (y x : ℕ) → x ≡ 0 → 0 < y * 11 + x → (y * 11 + x - 1) % 11 ≡ 10
-    go y x e k = omega arith
-
-spot-last : (i : ℕ) → 9 ≤ i % 10 → (1 + spot i) % 11 ≡ 10
-spot-last i h = go (i % 50 / 10) (i % 10) h (omega arith)
-  where
-    go : (y x : ℕ) → 9 ≤ x → x < 10 → (1 + (y * 11 + x)) % 11 ≡ 10
-    go y x a b = omega arith
-
+-- ---- cells and their bits
 -- one cell to a bit of a half
 pub one-spot : (i j : ℕ) → i / 50 ≡ j / 50 → spot i ≡ spot j → i ≡ j
 one-spot i j e f =
@@ -158,152 +121,183 @@ module _ (costs : List ℕ) {words : List ℕ} (given : words ≡ openWords cost
             go (inr a) = absurd (f (omega arith))
 
 -- ---- the bits of the cells beside a cell
--- what the words shifted to the cell's bit have there: over the north and the south side the other half may have the cell beside
-abbrev pub sides : ℕ → ℕ → ℕ → ℕ → Side → ℕ
-sides word k above below North = bitAt (word * 2 ^ 11) k + above
-sides word k above below East = bitAt (word / 2 ^ 1) k
-sides word k above below South = bitAt (word / 2 ^ 11) k + below
-sides word k above below West = bitAt (word * 2 ^ 1) k
+-- how far on the bit of the next cell of an axis is
+abbrev pub reach : Axis → ℕ
+reach Column = 1
+reach Row = 11
+
+-- a word shifted by u bits, so that the bit of a cell comes to the cell that has it beside itself in a sense
+abbrev pub shifted : Sense → ℕ → ℕ → ℕ
+shifted Lower u word = word * 2 ^ u
+shifted Higher u word = word / 2 ^ u
+
+-- the bit that comes to bit s of half h from the other half, where a word has 55 bits
+abbrev pub fromOther : List ℕ → ℕ → ℕ → ℕ → ℕ → Sense → ℕ
+fromOther l d u zero s Lower = 0
+fromOther l d u (suc h) s Lower = bitAt (wordAt l d 0 / 2 ^ (55 - u)) s
+fromOther l d u zero s Higher = bitAt (wordAt l d 1 * 2 ^ (55 - u)) s
+fromOther l d u (suc h) s Higher = 0
+
+-- only the next row may lie in the other half
+abbrev pub over : Axis → ℕ → ℕ
+over Column n = 0
+over Row n = n
+
+-- what the words shifted to bit s have there, by side
+abbrev pub sides : ℕ → ℕ → (Sense → ℕ) → Side → ℕ
+sides word s from k = bitAt (shifted (sense k) (reach (axis k)) word) s + over (axis k) (from (sense k))
 
 abbrev pub sideBit : List ℕ → ℕ → ℕ → Side → ℕ
-sideBit l d i = sides (wordAt l d (i / 50)) (spot i) (pick (ltb i 50) 0 (bitAt (wordAt l d 0 / 2 ^ 44) (spot i))) (pick (ltb i 50) (bitAt (wordAt l d 1 * 2 ^ 44) (spot i)) 0)
+sideBit l d i = sides (wordAt l d (i / 50)) (spot i) (fromOther l d 11 (i / 50) (spot i))
 
-module _ (l : List ℕ) (d i : ℕ) (out : (h k : ℕ) → h < 2 → Out k → bitAt (wordAt l d h) k ≡ 0) (low : i < 100) where
-  place : {a b x y : ℕ} → a ≡ b → x ≡ y → bitAt (wordAt l d a) x ≡ bitAt (wordAt l d b) y
-  place p q = ap₂ (λ (h k : ℕ). bitAt (wordAt l d h) k) p q
+-- a level is a line of 110 bits, and this is where a cell stands on it
+abbrev onLine : ℕ → ℕ
+onLine i = i / 10 * 11 + i % 10
 
-  -- a word shifted to the left, where it has a bit, and where it has none
-  up : (h s k : ℕ) {j : ℕ} → j ≡ s + k → bitAt (wordAt l d h * 2 ^ s) j ≡ bitAt (wordAt l d h) k
-  up h s k e = ap (λ (j : ℕ). bitAt (wordAt l d h * 2 ^ s) j) e ∙ up-bit (wordAt l d h) s k
+on-line : (i : ℕ) → onLine i ≡ i / 50 * 55 + spot i
+on-line i = let row : i / 10 ≡ i / 50 * 5 + i % 50 / 10 = omega arith in go (i / 10) (i / 50) (i % 50 / 10) (i % 10) row
+  where
+    go : (y h z x : ℕ) → y ≡ h * 5 + z → y * 11 + x ≡ h * 55 + (z * 11 + x)
+    go y h z x e = omega arith
 
-  -- a word shifted to the right
-  down : (h s k : ℕ) {j : ℕ} → s + k ≡ j → bitAt (wordAt l d h / 2 ^ s) k ≡ bitAt (wordAt l d h) j
-  down h s k e = down-bit (wordAt l d h) s k ∙ ap (λ (m : ℕ). bitAt (wordAt l d h) m) e
+spot-low : (i : ℕ) → spot i < 54
+spot-low i = go (i % 50 / 10) (i % 10) (omega arith) (omega arith)
+  where
+    go : (y x : ℕ) → y < 5 → x < 10 → y * 11 + x < 54
+    go y x a b = omega arith
 
-  north-there : 10 ≤ i → sideBit l d i North ≡ cellBit l d (i - 10)
-  north-there b = go (below-or i 50) (below-or i 60)
+-- q is u places on from p
+abbrev On : Sense → ℕ → ℕ → ℕ → Type 0
+On Lower u p q = p ≡ q + u
+On Higher u p q = q ≡ p + u
+
+-- the end of the line is less than u places on
+abbrev Past : Sense → ℕ → ℕ → Type 0
+Past Lower u p = p < u
+Past Higher u p = 110 ≤ p + u
+
+reach-low : (a : Axis) → reach a < 55
+reach-low Column = omega arith
+reach-low Row = omega arith
+
+line-low : (i : ℕ) → i < 100 → onLine i < 110
+line-low i l = omega arith
+
+-- THE LINE, by side: the cell beside is as far on as its axis reaches, and from a cell at an end that is past the line or at a bit that no cell has
+line-over : (k : Side) (i j : ℕ) → Over k (cellOn (cellAt i)) (cellOn (cellAt j)) → On (sense k) (reach (axis k)) (onLine i) (onLine j)
+line-over North i j o = omega arith
+line-over East i j o = omega arith
+line-over South i j o = omega arith
+line-over West i j o = omega arith
+
+line-end : (k : Side) (i : ℕ) → i < 100 → cellOn (cellAt i) (axis k) ≡ last (sense k) 10 → Past (sense k) (reach (axis k)) (onLine i) ⊎ ((q : ℕ) × (q < 110) × (q % 11 ≡ 10) × On (sense k) (reach (axis k)) (onLine i) q)
+line-end North i l e = inl (omega arith)
+line-end East i l e = inr (onLine i + 1, omega arith, omega arith, refl)
+line-end South i l e = inl (omega arith)
+line-end West i l e = go (below-or (onLine i) 1)
+  where
+    go : (onLine i < 1) ⊎ (1 ≤ onLine i) → (onLine i < 1) ⊎ ((q : ℕ) × (q < 110) × (q % 11 ≡ 10) × (onLine i ≡ q + 1))
+    go (inl a) = inl a
+    go (inr a) = inr (onLine i - 1, omega arith, omega arith, omega arith)
+
+module _ (l : List ℕ) (d : ℕ) (out : (h k : ℕ) → h < 2 → Out k → bitAt (wordAt l d h) k ≡ 0) where
+  lineBit : ℕ → ℕ
+  lineBit p = bitAt (wordAt l d (p / 55)) (p % 55)
+
+  place : (h k p : ℕ) → k < 55 → p ≡ h * 55 + k → bitAt (wordAt l d h) k ≡ lineBit p
+  unfolding lineBit
+  place h k p b e =
+      let half : h ≡ p / 55 = omega arith in
+      let at : k ≡ p % 55 = omega arith in
+      ap₂ (λ (h k : ℕ). bitAt (wordAt l d h) k) half at
+
+  -- a bit of the line between two rows
+  between : (q : ℕ) → q < 110 → q % 11 ≡ 10 → lineBit q ≡ 0
+  unfolding lineBit
+  between q a b = out (q / 55) (q % 55) (omega arith) (inl (omega arith))
+
+  -- a word shifted to the left, where it has a bit, and one shifted to the right
+  up : (h u k j : ℕ) → j ≡ u + k → bitAt (wordAt l d h * 2 ^ u) j ≡ bitAt (wordAt l d h) k
+  up h u k j e = ap (λ (j : ℕ). bitAt (wordAt l d h * 2 ^ u) j) e ∙ up-bit (wordAt l d h) u k
+
+  down : (h u k j : ℕ) → u + k ≡ j → bitAt (wordAt l d h / 2 ^ u) k ≡ bitAt (wordAt l d h) j
+  down h u k j e = down-bit (wordAt l d h) u k ∙ ap (λ (m : ℕ). bitAt (wordAt l d h) m) e
+
+  high : (h k : ℕ) → h < 2 → 55 ≤ k → bitAt (wordAt l d h) k ≡ 0
+  high h k a b = out h k a (inr b)
+
+  -- bit s of half h in the shifted words is the bit u places on along the line
+  shifted-there : (e : Sense) (u h s q : ℕ) → u < 55 → h < 2 → s < 55 → q < 110 → On e u (h * 55 + s) q → bitAt (shifted e u (wordAt l d h)) s + fromOther l d u h s e ≡ lineBit q
+  shifted-there Lower u zero s q a b c w o = omega (arith, up 0 u (s - u) s (omega arith), place 0 (s - u) q (omega arith) (omega arith))
+  shifted-there Lower u (suc zero) s q a b c w o = go (below-or s u)
     where
-      same : 10 ≤ i % 50 → (i - 10) / 50 ≡ i / 50 → bitAt (wordAt l d (i / 50) * 2 ^ 11) (spot i) ≡ cellBit l d (i - 10)
-      same h e = up (i / 50) 11 (spot (i - 10)) (spot-row i h) ∙ place (sym e) refl
-
-      past : (b : ℕ) {a : ℕ} → a ≡ 11 + b → 55 ≤ 44 + a
-      past b e = omega arith
-
-      go : (i < 50) ⊎ (50 ≤ i) → (i < 60) ⊎ (60 ≤ i) → sideBit l d i North ≡ cellBit l d (i - 10)
-      go (inl a) c = rw (lt-ltb i 50 a) (add-zero (bitAt (wordAt l d (i / 50) * 2 ^ 11) (spot i)) ∙ same (omega arith) (omega arith))
-      go (inr a) (inl c) =
-          let first : bitAt (wordAt l d (i / 50) * 2 ^ 11) (spot i) ≡ 0 = up-low (wordAt l d (i / 50)) 11 (spot i) (omega arith) in
-          let half : 0 ≡ (i - 10) / 50 = omega arith in
-          rw (le-ltb i 50 a, first) (zero-add (bitAt (wordAt l d 0 / 2 ^ 44) (spot i)) ∙ down 0 44 (spot i) (spot-half i a c) ∙ place half refl)
-      go (inr a) (inr c) =
-          let high : 55 ≤ 44 + spot i = past (spot (i - 10)) (spot-row i (omega arith)) in
-          let second : bitAt (wordAt l d 0 / 2 ^ 44) (spot i) ≡ 0 = down 0 44 (spot i) refl ∙ out 0 (44 + spot i) (omega arith) (inr high) in
-          rw (le-ltb i 50 a, second) (add-zero (bitAt (wordAt l d (i / 50) * 2 ^ 11) (spot i)) ∙ same (omega arith) (omega arith))
-
-  north-none : i < 10 → sideBit l d i North ≡ 0
-  north-none b = rw (lt-ltb i 50 (omega arith), up-low (wordAt l d (i / 50)) 11 (spot i) (omega arith)) refl
-
-  south-there : i < 90 → sideBit l d i South ≡ cellBit l d (i + 10)
-  south-there b = go (below-or i 40) (below-or i 50)
+      go : (s < u) ⊎ (u ≤ s) → bitAt (wordAt l d 1 * 2 ^ u) s + bitAt (wordAt l d 0 / 2 ^ (55 - u)) s ≡ lineBit q
+      go (inl f) = omega (arith, up-low (wordAt l d 1) u s f, down 0 (55 - u) s q (omega arith), place 0 q q (omega arith) (omega arith))
+      go (inr f) = omega (arith, up 1 u (s - u) s (omega arith), place 1 (s - u) q (omega arith) (omega arith), down 0 (55 - u) s (55 - u + s) refl, high 0 (55 - u + s) (omega arith) (omega arith))
+  shifted-there Lower u (suc (suc h)) s q a b c w o = absurd (omega arith)
+  shifted-there Higher u zero s q a b c w o = go (below-or s (55 - u))
     where
-      back : i + 10 - 10 ≡ i
-      back = omega arith
+      go : (s < 55 - u) ⊎ (55 - u ≤ s) → bitAt (wordAt l d 0 / 2 ^ u) s + bitAt (wordAt l d 1 * 2 ^ (55 - u)) s ≡ lineBit q
+      go (inl f) = omega (arith, up-low (wordAt l d 1) (55 - u) s f, down 0 u s q (omega arith), place 0 q q (omega arith) (omega arith))
+      go (inr f) = omega (arith, down 0 u s (u + s) refl, high 0 (u + s) (omega arith) (omega arith), up 1 (55 - u) (s - (55 - u)) s (omega arith), place 1 (s - (55 - u)) q (omega arith) (omega arith))
+  shifted-there Higher u (suc zero) s q a b c w o = omega (arith, down 1 u s (s + u) (omega arith), place 1 (s + u) q (omega arith) (omega arith))
+  shifted-there Higher u (suc (suc h)) s q a b c w o = absurd (omega arith)
 
-      same : 10 ≤ (i + 10) % 50 → i / 50 ≡ (i + 10) / 50 → bitAt (wordAt l d (i / 50) / 2 ^ 11) (spot i) ≡ cellBit l d (i + 10)
-      same h e = down (i / 50) 11 (spot i) (sym (spot-row (i + 10) h ∙ ap (λ (k : ℕ). 11 + spot k) back)) ∙ place e refl
+  -- and 0 where the line ends
+  shifted-none : (e : Sense) (u h s : ℕ) → u < 55 → h < 2 → s < 55 → Past e u (h * 55 + s) → bitAt (shifted e u (wordAt l d h)) s + fromOther l d u h s e ≡ 0
+  shifted-none Lower u zero s a b c o = omega (arith, up-low (wordAt l d 0) u s (omega arith))
+  shifted-none Lower u (suc h) s a b c o = absurd (omega arith)
+  shifted-none Higher u zero s a b c o = absurd (omega arith)
+  shifted-none Higher u (suc zero) s a b c o = omega (arith, down 1 u s (u + s) refl, high 1 (u + s) (omega arith) (omega arith))
+  shifted-none Higher u (suc (suc h)) s a b c o = absurd (omega arith)
 
-      go : (i < 40) ⊎ (40 ≤ i) → (i < 50) ⊎ (50 ≤ i) → sideBit l d i South ≡ cellBit l d (i + 10)
-      go (inl a) c =
-          let second : bitAt (wordAt l d 1 * 2 ^ 44) (spot i) ≡ 0 = up-low (wordAt l d 1) 44 (spot i) (omega arith) in
-          rw (lt-ltb i 50 (omega arith), second) (add-zero (bitAt (wordAt l d (i / 50) / 2 ^ 11) (spot i)) ∙ same (omega arith) (omega arith))
-      go (inr a) (inl c) =
-          let first : bitAt (wordAt l d (i / 50) / 2 ^ 11) (spot i) ≡ 0 = down (i / 50) 11 (spot i) refl ∙ out (i / 50) (11 + spot i) (omega arith) (inr (omega arith)) in
-          let half : 1 ≡ (i + 10) / 50 = omega arith in
-          let at : spot i ≡ 44 + spot (i + 10) = sym (spot-half (i + 10) (omega arith) (omega arith) ∙ ap spot back) in
-          rw (lt-ltb i 50 c, first) (zero-add (bitAt (wordAt l d 1 * 2 ^ 44) (spot i)) ∙ up 1 44 (spot (i + 10)) at ∙ place half refl)
-      go (inr a) (inr c) = rw (le-ltb i 50 c) (add-zero (bitAt (wordAt l d (i / 50) / 2 ^ 11) (spot i)) ∙ same (omega arith) (omega arith))
+  -- nothing comes from the other half along a row
+  other-none : (h s : ℕ) (e : Sense) → s < 54 → fromOther l d 1 h s e ≡ 0
+  other-none zero s Lower b = refl
+  other-none (suc h) s Lower b = down 0 54 s (54 + s) refl ∙ past (below-or 0 s)
+    where
+      past : (0 < s) ⊎ (s ≤ 0) → bitAt (wordAt l d 0) (54 + s) ≡ 0
+      past (inl f) = high 0 (54 + s) (omega arith) (omega arith)
+      past (inr f) = out 0 (54 + s) (omega arith) (inl (omega arith))
+  other-none zero s Higher b = up-low (wordAt l d 1) 54 s b
+  other-none (suc h) s Higher b = refl
 
-  south-none : 90 ≤ i → sideBit l d i South ≡ 0
-  south-none b =
-      let first : bitAt (wordAt l d (i / 50) / 2 ^ 11) (spot i) ≡ 0 = down (i / 50) 11 (spot i) refl ∙ out (i / 50) (11 + spot i) (omega arith) (inr (omega arith)) in
-      rw (le-ltb i 50 (omega arith), first) refl
+  module _ (i : ℕ) (low : i < 100) where
+    side-is : (k : Side) → sideBit l d i k ≡ bitAt (shifted (sense k) (reach (axis k)) (wordAt l d (i / 50))) (spot i) + fromOther l d (reach (axis k)) (i / 50) (spot i) (sense k)
+    side-is k = ap (λ (n : ℕ). bitAt (shifted (sense k) (reach (axis k)) (wordAt l d (i / 50))) (spot i) + n) (go (axis k))
+      where
+        go : (a : Axis) → over a (fromOther l d 11 (i / 50) (spot i) (sense k)) ≡ fromOther l d (reach a) (i / 50) (spot i) (sense k)
+        go Column = sym (other-none (i / 50) (spot i) (sense k) (spot-low i))
+        go Row = refl
 
-  west-there : 0 < i % 10 → sideBit l d i West ≡ cellBit l d (i - 1)
-  west-there b =
-      let on : i - 1 + 1 ≡ i = omega arith in
-      let half : i / 50 ≡ (i - 1) / 50 = omega arith in
-      up (i / 50) 1 (spot (i - 1)) (sym (spot-next (i - 1) (omega arith) ∙ ap spot on)) ∙ place half refl
+    -- the bit of the cell beside, where there is one
+    pub side-there : (side : Side) → beside i side < 100 → sideBit l d i side ≡ cellBit l d (beside i side)
+    side-there k h =
+        let q : ℕ = onLine (beside i k) in
+        let o = line-over k i (beside i k) (beside-over i k low h) in
+        side-is k
+        ∙ shifted-there (sense k) (reach (axis k)) (i / 50) (spot i) q (reach-low (axis k)) (omega arith) (omega (arith, spot-low i)) (line-low (beside i k) h) (rw (on-line i) at o)
+        ∙ sym (place (beside i k / 50) (spot (beside i k)) q (omega (arith, spot-low (beside i k))) (on-line (beside i k)))
 
-  west-none : i % 10 ≡ 0 → sideBit l d i West ≡ 0
-  west-none e = go (below-or 0 (spot i))
-    where
-      go : (0 < spot i) ⊎ (spot i ≤ 0) → sideBit l d i West ≡ 0
-      go (inl a) = let at : spot i ≡ 1 + (spot i - 1) = omega arith in up (i / 50) 1 (spot i - 1) at ∙ out (i / 50) (spot i - 1) (omega arith) (inl (spot-first i e a))
-      go (inr a) = up-low (wordAt l d (i / 50)) 1 (spot i) (omega arith)
+    -- and else 0
+    pub side-none : (side : Side) → 100 ≤ beside i side → sideBit l d i side ≡ 0
+    side-none k h = side-is k ∙ go (line-end k i low (beside-none i k low h))
+      where
+        bit : ℕ
+        bit = bitAt (shifted (sense k) (reach (axis k)) (wordAt l d (i / 50))) (spot i) + fromOther l d (reach (axis k)) (i / 50) (spot i) (sense k)
 
-  east-there : i % 10 < 9 → sideBit l d i East ≡ cellBit l d (i + 1)
-  east-there b = let half : i / 50 ≡ (i + 1) / 50 = omega arith in down (i / 50) 1 (spot i) (spot-next i b) ∙ place half refl
-
-  east-none : 9 ≤ i % 10 → sideBit l d i East ≡ 0
-  east-none b = down (i / 50) 1 (spot i) refl ∙ out (i / 50) (1 + spot i) (omega arith) (inl (spot-last i b))
-
-  -- the bit of the cell beside, where there is one
-  pub side-there : (side : Side) → beside i side < 100 → sideBit l d i side ≡ cellBit l d (beside i side)
-  unfolding beside
-  side-there North h = go (leb 10 i) refl h
-    where
-      go : (t : Bool) → leb 10 i ≡ t → pick t (i - 10) 100 < 100 → sideBit l d i North ≡ cellBit l d (pick t (i - 10) 100)
-      go true e q = north-there (leb-true 10 i e)
-      go false e q = absurd (omega arith)
-  side-there East h = go (ltb (i % 10) 9) refl h
-    where
-      go : (t : Bool) → ltb (i % 10) 9 ≡ t → pick t (i + 1) 100 < 100 → sideBit l d i East ≡ cellBit l d (pick t (i + 1) 100)
-      go true e q = east-there (ltb-true (i % 10) 9 e)
-      go false e q = absurd (omega arith)
-  side-there South h = go (ltb i 90) refl h
-    where
-      go : (t : Bool) → ltb i 90 ≡ t → pick t (i + 10) 100 < 100 → sideBit l d i South ≡ cellBit l d (pick t (i + 10) 100)
-      go true e q = south-there (ltb-true i 90 e)
-      go false e q = absurd (omega arith)
-  side-there West h = go (ltb 0 (i % 10)) refl h
-    where
-      go : (t : Bool) → ltb 0 (i % 10) ≡ t → pick t (i - 1) 100 < 100 → sideBit l d i West ≡ cellBit l d (pick t (i - 1) 100)
-      go true e q = west-there (ltb-true 0 (i % 10) e)
-      go false e q = absurd (omega arith)
-
-  -- and else 0
-  pub side-none : (side : Side) → 100 ≤ beside i side → sideBit l d i side ≡ 0
-  unfolding beside
-  side-none North h = go (leb 10 i) refl h
-    where
-      go : (t : Bool) → leb 10 i ≡ t → 100 ≤ pick t (i - 10) 100 → sideBit l d i North ≡ 0
-      go true e q = absurd (omega arith)
-      go false e q = north-none (leb-false 10 i e)
-  side-none East h = go (ltb (i % 10) 9) refl h
-    where
-      go : (t : Bool) → ltb (i % 10) 9 ≡ t → 100 ≤ pick t (i + 1) 100 → sideBit l d i East ≡ 0
-      go true e q = absurd (omega (arith, ltb-true (i % 10) 9 e))
-      go false e q = east-none (ltb-false (i % 10) 9 e)
-  side-none South h = go (ltb i 90) refl h
-    where
-      go : (t : Bool) → ltb i 90 ≡ t → 100 ≤ pick t (i + 10) 100 → sideBit l d i South ≡ 0
-      go true e q = absurd (omega (arith, ltb-true i 90 e))
-      go false e q = south-none (ltb-false i 90 e)
-  side-none West h = go (ltb 0 (i % 10)) refl h
-    where
-      go : (t : Bool) → ltb 0 (i % 10) ≡ t → 100 ≤ pick t (i - 1) 100 → sideBit l d i West ≡ 0
-      go true e q = absurd (omega (arith, ltb-true 0 (i % 10) e))
-      go false e q = west-none (omega (arith, ltb-false 0 (i % 10) e))
+        go : Past (sense k) (reach (axis k)) (onLine i) ⊎ ((q : ℕ) × (q < 110) × (q % 11 ≡ 10) × On (sense k) (reach (axis k)) (onLine i) q) → bit ≡ 0
+        go (inl p) = shifted-none (sense k) (reach (axis k)) (i / 50) (spot i) (reach-low (axis k)) (omega arith) (omega (arith, spot-low i)) (rw (on-line i) at p)
+        go (inr p) =
+            shifted-there (sense k) (reach (axis k)) (i / 50) (spot i) (p .0) (reach-low (axis k)) (omega arith) (omega (arith, spot-low i)) (p .1) (rw (on-line i) at (p .3))
+            ∙ between (p .0) (p .1) (p .2)
 
 -- bit k of a grown word n: the open cells that are in the word or in one beside it
 pub record GrownBit (n cells word across k : ℕ) : Type 0 where
   only : bitAt n k ≤ bitAt cells k
   some : bitAt n k ≤ bitAt word k + bitAt (word * 2 ^ 1) k + bitAt (word / 2 ^ 1) k + bitAt (word * 2 ^ 11) k + bitAt (word / 2 ^ 11) k + bitAt across k
   own : bitAt word k + bitAt cells k ≤ bitAt n k + 1
-  west : bitAt (word * 2 ^ 1) k + bitAt cells k ≤ bitAt n k + 1
-  east : bitAt (word / 2 ^ 1) k + bitAt cells k ≤ bitAt n k + 1
-  north : bitAt (word * 2 ^ 11) k + bitAt cells k ≤ bitAt n k + 1
-  south : bitAt (word / 2 ^ 11) k + bitAt cells k ≤ bitAt n k + 1
+  near : (side : Side) → bitAt (shifted (sense side) (reach (axis side)) word) k + bitAt cells k ≤ bitAt n k + 1
   beyond : bitAt across k + bitAt cells k ≤ bitAt n k + 1
 
 pub grown-bit : (cells word across k : ℕ) → k < 64 → GrownBit (grownWord cells word across) cells word across k
@@ -325,10 +319,12 @@ grown-bit cells word across k h =
       only = n .right;
       some = omega (arith, n .left, o₁ .either, o₂ .either, o₃ .either, o₄ .either, o₅ .either, one, row);
       own = omega (arith, n .both, o₁ .left, o₂ .left, o₃ .left, o₄ .left, o₅ .left);
-      west = omega (arith, n .both, o₁ .right, o₂ .left, o₃ .left, o₄ .left, o₅ .left, one);
-      east = omega (arith, n .both, o₂ .right, o₃ .left, o₄ .left, o₅ .left);
-      north = omega (arith, n .both, o₃ .right, o₄ .left, o₅ .left, row);
-      south = omega (arith, n .both, o₄ .right, o₅ .left);
+      near = elim [
+        | North ↦ omega (arith, n .both, o₃ .right, o₄ .left, o₅ .left, row)
+        | East ↦ omega (arith, n .both, o₂ .right, o₃ .left, o₄ .left, o₅ .left)
+        | South ↦ omega (arith, n .both, o₄ .right, o₅ .left)
+        | West ↦ omega (arith, n .both, o₁ .right, o₂ .left, o₃ .left, o₄ .left, o₅ .left, one)
+      ];
       beyond = omega (arith, n .both, o₅ .right);
     }
 
@@ -343,14 +339,13 @@ pub record NextBit (n cell own : ℕ) (side : Side → ℕ) : Type 0 where
   pub kept : own + cell ≤ n + 1
   pub gained : (s : Side) → side s ≡ 1 → cell ≤ n
 
-pub by-side : {n cells word across k : ℕ} (above below : ℕ) → GrownBit n cells word across k → bitAt across k ≡ above + below → NextBit (bitAt n k) (bitAt cells k) (bitAt word k) (sides word k above below)
-by-side {n} {cells} {word} {across} {k} above below b e = record { only = b .only; some = omega (arith, b .some); kept = b .own; gained = gains }
+pub by-side : {n cells word across k : ℕ} (from : Sense → ℕ) → GrownBit n cells word across k → bitAt across k ≡ from Lower + from Higher → NextBit (bitAt n k) (bitAt cells k) (bitAt word k) (sides word k from)
+by-side from b e = record { only = b .only; some = omega (arith, b .some); kept = b .own; gained = λ s q. omega (arith, b .near s, b .beyond, part (axis s) (sense s)) }
   where
-    gains : (s : Side) → sides word k above below s ≡ 1 → bitAt cells k ≤ bitAt n k
-    gains North q = omega (arith, b .north, b .beyond)
-    gains East q = omega (arith, b .east)
-    gains South q = omega (arith, b .south, b .beyond)
-    gains West q = omega (arith, b .west)
+    part : (a : Axis) (e : Sense) → over a (from e) ≤ from Lower + from Higher
+    part Column e = omega arith
+    part Row Lower = omega arith
+    part Row Higher = omega arith
 
 -- ---- as `open_word` and `grow` make them
 pub packed-none : (row : ℕ → ℕ) → 0 ≡ packed row 0
