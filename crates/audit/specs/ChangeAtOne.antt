@@ -29,7 +29,7 @@ use Rattle.model.specs.ScaleLengths.{length-floor}
 use Rattle.model.specs.Calls.{built}
 use Rattle.model.specs.CellSides.{border-low}
 use Rattle.model.specs.SectorSides.{sector-cell, has-rows, lies-beyond}
-use Rattle.audit.specs.Gates.{Fresh, far-mark}
+use Rattle.audit.specs.FreshMarks.{Fresh, far-mark}
 
 -- ---- the sectors around a change
 -- a place of the nine

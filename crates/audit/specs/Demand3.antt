@@ -20,7 +20,7 @@ use Rattle.model.specs.Route.{Found, none, route, routeOf}
 use Rattle.model.specs.Account.{Call, Account, accountCosts}
 use Rattle.model.specs.Calls.{orElse, built, buildInto, stepList, foundNumber, routeNumber, routed, routeAnswer, storeAfter}
 use Rattle.audit.specs.Crossings.{floorOf, open-on}
-use Rattle.audit.specs.Gates.{Fresh}
+use Rattle.audit.specs.FreshMarks.{Fresh}
 use Rattle.audit.specs.RoutePromise.{Gives, route-promise, route-room}
 use Rattle.audit.specs.Reached.{Reached, reached, reached-hall, reached-passes, reached-fresh}
 use Rattle.audit.specs.Walks.{walk-is}

@@ -4,7 +4,8 @@ pub mod Ties
 pub mod Borders
 pub mod Crossings
 pub mod SectorMoves
-pub mod PortalEdges
+pub mod Slides
+pub mod FreshMarks
 pub mod Gates
 pub mod RoutePromise
 pub mod ChangeAtOne

@@ -22,14 +22,16 @@ use Rattle.model.specs.MovesFewest.{joined-is}
 use Rattle.model.specs.Halls.{Hall}
 use Rattle.model.specs.Portals.{portalSector, isPortal, midCell, portalGraph}
 use Rattle.model.specs.LeastPath.{nodeRank, unlinked, keysTo, costOfKey, leastPath}
-use Rattle.model.specs.LeastPathFirst.{edgeCost, portal-keyed, keys-settled, head-portal, linked, least-path}
+use Rattle.model.specs.PortalCrossings.{mid-sector}
+use Rattle.model.specs.PortalEdges.{arc-edge, edge-arc, edge-to, portal-node}
+use Rattle.model.specs.LeastPathFirst.{edgeCost, portal-keyed, keys-settled, linked, least-path}
 use Rattle.model.specs.Route.{End, starts, ends, endOf, linkedPair, runOf, routePairs, chosenPair, stepsOf, route, none, throughPair, throughPortals, routeOf}
 use Rattle.model.specs.Route as choice
 use Rattle.model.specs.RouteChosen.{link-is, link-has}
 use Rattle.audit.specs.Crossings.{floorOf}
 use Rattle.audit.specs.SectorMoves.{fewest, inside-joined}
-use Rattle.audit.specs.PortalEdges.{Arc, portal-on, mid-sector}
-use Rattle.audit.specs.Gates.{Fresh, fits, portals}
+use Rattle.audit.specs.FreshMarks.{Fresh, fits}
+use Rattle.audit.specs.Gates.{portals}
 
 -- ---- what a route call finds, taken apart
 pub same-found : {s t : List RouteStep} {a b c d : ℕ} → route s a b ≡ route t c d → (s ≡ t) × (a ≡ c) × (b ≡ d)
@@ -53,26 +55,26 @@ module _ (h : Hall) (fresh : Fresh h) where
   path-journey : {p e c : ℕ} → Path (portals h fresh) p e c → (nodes : List ℕ) × (n : ℕ) × Journey g (edgeCost h) e p nodes c n
   path-journey (at {p}) = (p ∷ [], 0, arrived)
   path-journey {e = e} (along {p} {q} {r} {w} {c} a b) =
+      let x = edge-arc h (fits h fresh) a in
       let j = path-journey b in
-      let rest : Journey g (edgeCost h) e (g .head (a .arc)) (j .0) c (j .1) = rw (a .head-is) (j .2) in
-      let sum : w + c ≡ c + edgeCost h (a .arc) = omega (arith, a .cost-is) in
-      (p ∷ j .0, j .1 + 1, onward (a .arc) (a .below) (a .real) (a .tail-is) rest sum refl)
+      let rest : Journey g (edgeCost h) e (g .head (x .arc)) (j .0) c (j .1) = rw (x .head-is) (j .2) in
+      let sum : w + c ≡ c + edgeCost h (x .arc) = omega (arith, x .weighs) in
+      (p ∷ j .0, j .1 + 1, onward (x .arc) (x .below) (omega (arith, x .weighs)) (x .tail-is) rest sum refl)
 
   journey-path : {e p c n : ℕ} {nodes : List ℕ} → Journey g (edgeCost h) e p nodes c n → Path (portals h fresh) p e c
   journey-path arrived = at
   journey-path {e} (onward {u} {a} {b} k l r t j x y) =
-      let sum : b ≡ edgeCost h k + a = omega arith in
-      let edge : Arc h u (g .head k) (edgeCost h k) = record { arc = k; below = l; real = r; tail-is = t; head-is = refl; cost-is = refl } in
-      rw sum (along edge (journey-path j))
+      let edge = arc-edge h (fits h fresh) k l r in
+      let sum : b ≡ edge .cost + a = omega (arith, edge .weighs) in
+      rw sum (along (rw t at (edge .is)) (journey-path j))
 
-  portal-node : (p : ℕ) → isPortal h p ≡ true → p < g .nodes
-  unfolding portalGraph
-  portal-node p e = omega (arith, portal-on h p e)
+  node : (p : ℕ) → isPortal h p ≡ true → p < g .nodes
+  node = portal-node h (fits h fresh)
 
   -- a path from a portal ends at one
   path-ends : {p e c : ℕ} → Path (portals h fresh) p e c → isPortal h p ≡ true → isPortal h e ≡ true
   path-ends at a = a
-  path-ends (along {p} {q} k b) a = path-ends b (rw (k .head-is) at (head-portal h (k .arc) (k .below) (k .real)))
+  path-ends (along {p} {q} k b) a = path-ends b (edge-to k)
 
   -- ---- the least cost of a path, by its key
   linkedBy : ℕ → ℕ → Bool
@@ -108,8 +110,8 @@ module _ (h : Hall) (fresh : Fresh h) where
   path-linked {p} {e} {c} a b =
       let end = path-ends b a in
       let j = path-journey b in
-      let low = linked h (fits h fresh) e (portal-node e end) (j .2) in
-      let least = least-path h (fits h fresh) e (portal-node e end) p (portal-node p a) low in
+      let low = linked h (fits h fresh) e (node e end) (j .2) in
+      let least = least-path h (fits h fresh) e (node e end) p (node p a) low in
       (record { start = a; end = end; key = low }, before-cost (least .1 (j .0) c (j .1) (j .2)))
 
   pub lengths : Lengths (portals h fresh)
@@ -121,7 +123,7 @@ module _ (h : Hall) (fresh : Fresh h) where
     cost = costBy;
     moves-least = fewest (h .measures) (h .scaled);
     cost-least = record {
-      attained = λ p e t. let l = linked-is p e t in journey-path (least-path h (fits h fresh) e (portal-node e (l .end)) p (portal-node p (l .start)) (l .key) .0);
+      attained = λ p e t. let l = linked-is p e t in journey-path (least-path h (fits h fresh) e (node e (l .end)) p (node p (l .start)) (l .key) .0);
       found = λ p e c a b. is-linked p e (path-linked a b .0);
       lowest = λ p e c a b. path-linked a b .1;
     };
@@ -196,7 +198,7 @@ module _ (h : Hall) (fresh : Fresh h) where
             let s = start-is source (w .0) (w .2) in
             let t = end-is goal (e .0) (e .1) in
             let k = link-is (w .0) (w .1) (w .4) in
-            let few = few-edges (portal-keyed h (fits h fresh)) (keys-settled h (fits h fresh) (e .0) (portal-node (e .0) (t .0))) (nodeRank h) (w .0) (portal-node (w .0) (s .0)) (rw (← (e .2)) at (k .1)) in
+            let few = few-edges (portal-keyed h (fits h fresh)) (keys-settled h (fits h fresh) (e .0) (node (e .0) (t .0))) (nodeRank h) (w .0) (node (w .0) (s .0)) (rw (← (e .2)) at (k .1)) in
             rw (k .0, ← (e .2)) (omega (arith, few .0, few .1, fresh .small, steps-few h goal (leastPath h g (keysTo g (e .0)) (w .0)) .0))
 
     -- the route call finds a route of this leg and run

@@ -25,7 +25,7 @@ use Rattle.model.specs.ScaleLengths.{length-floor}
 use Rattle.model.specs.Store.{measuresAt, sizeOf, marksIn, decode, encode, written}
 use Rattle.model.specs.StoreLayout.{Laid, length-encode, length-written, decode-written}
 use Rattle.model.specs.Calls.{orElse, ifAccepted, buildNumber, built, badMark, checkNumber, alterNumber, changeNumber, changeInto}
-use Rattle.audit.specs.Gates.{Fresh, mark-small}
+use Rattle.audit.specs.FreshMarks.{Fresh, mark-small}
 use Rattle.audit.specs.ChangeAtOne.{changed-built, built-fresh, fresh-exceeds}
 
 -- ---- what build accepts

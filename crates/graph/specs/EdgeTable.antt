@@ -14,11 +14,11 @@ use Rattle.model.specs.Cells.{sideNumber}
 use Rattle.model.specs.Sectors.{sectors}
 use Rattle.model.specs.Halls.{Hall, markAt}
 use Rattle.model.specs.Portals.{facing, headOf, edgesOf, edges, portalGraph}
-use Rattle.model.specs.LeastPathFirst.{Fits, portal-sound}
+use Rattle.model.specs.PortalCrossings.{Fits}
+use Rattle.model.specs.PortalEdges.{portal-sound, portal-both-ways}
 use Rattle.model.specs.Store.{measuresAt, marksIn, decode}
 use Rattle.store.specs.Checks.{Checked}
 use Rattle.model.specs.StoreLayout.{decode-laid}
-use Rattle.graph.specs.Across.{portal-both-ways}
 
 -- a hall of these measures with nothing in it: which portals face each other goes by the measures alone
 abbrev pub bare : Measures → Hall
@@ -108,8 +108,8 @@ checked-fits {st} ok = record { small = ok .measures .few-sectors; marked = λ s
     go s side (inr l) = omega (arith, List·getD-eq-default (marksIn (measuresAt st) st) 0 {n = s * 4 + sideNumber side} (omega (arith, decode-laid st (ok .room) .marks-sides)))
 
 -- the table of such a store stands for a graph that can be searched from its end
-pub table-sound : (h : Hall) → Sound (tableGraph (h .measures) (edgeTable h))
-table-sound h = rw (table-graph h) (portal-sound h)
+pub table-sound : {h : Hall} → Fits h → Sound (tableGraph (h .measures) (edgeTable h))
+table-sound {h} fits = rw (table-graph h) (portal-sound h fits)
 
 pub table-both-ways : {h : Hall} → Fits h → BothWays (tableGraph (h .measures) (edgeTable h))
 table-both-ways {h} fits = subst (λ (g : Graph). BothWays g) (sym (table-graph h)) (portal-both-ways h fits)

@@ -3,13 +3,12 @@ use Prim.Native.Nat.{ℕ, _+_, _-_, _*_, _/_, _%_, _≤_, _<_}
 use native.Mathlib.Omega.{arith}
 use mathlib.Core.Path.{_≡_, refl, sym, ap, subst, _∙_}
 use mathlib.Core.Logic.{_⊎_}
-use mathlib.Core.Bool.{Bool, true, false, _&&_}
+use mathlib.Core.Bool.{Bool, true, false}
 use mathlib.Core.List.{List, _++_}
-use lib.Dec.{ltb, eqb}
+use lib.Dec.{ltb}
 use lib.ListN.{length, getD, drop, set, length-append, length-drop}
-use borrow.Author.Tests.{ltb-true, eq-eqb, ne-eqb}
-use Rattle.laws.specs.Fold.{pick, false-ne-true}
-use Rattle.laws.specs.Search.{both}
+use borrow.Author.Tests.{eq-eqb, ne-eqb}
+use Rattle.laws.specs.Fold.{false-ne-true}
 use Rattle.laws.specs.Graph.{Graph, Sound, BothWays, Settled, turned}
 use Rattle.laws.specs.FirstPath.{better, closer, next, path}
 use Rattle.laws.specs.Keys.{few-edges}
@@ -17,43 +16,17 @@ use Rattle.laws.specs.Tracing.{next-skip, next-take, next-same, Tracing, tracin
 use Rattle.model.specs.declared.Measures.{Measures}
 use Rattle.model.specs.declared.Side.{Side}
 use Rattle.model.specs.Cells.{sideNumber, sideAt}
-use Rattle.model.specs.Sectors.{sectors, costsOf, hasBeyond}
-use Rattle.model.specs.Moves.{moves, apart}
+use Rattle.model.specs.Sectors.{sectors}
 use Rattle.model.specs.Windows.{borderCell, firstPlace, lastPlace}
 use Rattle.model.specs.Halls.{Hall}
-use Rattle.model.specs.Portals.{portalSector, portalSide, portalMark, isPortal, midpoint, facing, headOf, key, outerEdge, innerEdge, edgeAt, portalGraph}
+use Rattle.model.specs.Portals.{portalMark, isPortal, headOf, key, portalGraph}
 use Rattle.model.specs.LeastPath.{cellRank, nodeRank, unlinked, keysTo, leastPath}
-use Rattle.model.specs.LeastPathFirst.{weight-at, head-portal, portal-sound, portal-keyed, keys-settled}
+use Rattle.model.specs.PortalEdges.{weight-low, head-portal, portal-sound}
+use Rattle.model.specs.LeastPathFirst.{portal-keyed, keys-settled}
 use Rattle.model.specs.Store.{decode}
 use Rattle.graph.specs.EdgeTable.{Opened, bare, edgeTable, tableGraph, length-table, table-graph, table-sound, table-both-ways}
 use Rattle.graph.specs.Reading.{measures-are, accepted-of, fits-of}
 use Rattle.graph.specs.Searching.{Searched}
-
--- no edge weighs more than 254 moves
-when-low : (t : Bool) (w : ℕ) → (t ≡ true → w < 255) → pick t (key w) 0 ≤ key 254
-when-low true w low = omega (arith, low refl)
-when-low false w low = omega arith
-
-edge-low : (h : Hall) (p : ℕ) (from : List ℕ) (c : ℕ) → edgeAt h p from c ≤ key 254
-unfolding edgeAt outerEdge innerEdge
-edge-low h p from c = go (eqb c (p % 20))
-  where
-    q : ℕ
-    q = portalSector p * 20 + c
-
-    go : (t : Bool) → pick t (pick (hasBeyond (h .measures) (portalSector p) (portalSide p) && isPortal h (facing h p)) (key 1) 0) (pick (isPortal h q && ltb (getD from (midpoint h q) 0) apart) (key (getD from (midpoint h q) 0)) 0) ≤ key 254
-    go true = when-low (hasBeyond (h .measures) (portalSector p) (portalSide p) && isPortal h (facing h p)) 1 (λ _. omega arith)
-    go false = when-low (isPortal h q && ltb (getD from (midpoint h q) 0) apart) (getD from (midpoint h q) 0) (λ e. ltb-true (getD from (midpoint h q) 0) apart (both (isPortal h q) (ltb (getD from (midpoint h q) 0) apart) e .1))
-
-weight-low : (h : Hall) (e : ℕ) → e < portalGraph h .arcs → portalGraph h .weight e ≤ key 254
-weight-low h e l = rw (weight-at h e l) (go (isPortal h (e / 20)))
-  where
-    from : List ℕ
-    from = moves (costsOf (h .scaled) (portalSector (e / 20))) (midpoint h (e / 20))
-
-    go : (t : Bool) → pick t (edgeAt h (e / 20) from (e % 20)) 0 ≤ key 254
-    go true = edge-low h (e / 20) from (e % 20)
-    go false = omega arith
 
 -- a store that passes the check, its measures, its filled table, and room for a key to each number
 pub record Linked (m : Measures) (st table : List ℕ) (keys : ℕ) : Type 0 where
@@ -76,19 +49,19 @@ module _ {m : Measures} {st table : List ℕ} {keys : ℕ} (k : Linked m st tabl
         long = ap length (k .filled) ∙ length-table (decode st) ∙ ap (λ (n : Measures). sectors n * 400) (measures-are (k .opened));
         numbers = k .numbers;
         room = omega (arith, few .few-sectors);
-        sound = subst (λ (g : Graph). Sound g) (ap (λ (n : Measures). tableGraph n (edgeTable (decode st))) (measures-are (k .opened)) ∙ ap (tableGraph m) (sym (k .filled))) (table-sound (decode st));
+        sound = subst (λ (g : Graph). Sound g) (ap (λ (n : Measures). tableGraph n (edgeTable (decode st))) (measures-are (k .opened)) ∙ ap (tableGraph m) (sym (k .filled))) (table-sound (fits-of (k .opened)));
         light = λ e l. omega (arith, low e l);
       }
     where
       low : (e : ℕ) → e < sectors m * 400 → getD table e 0 ≤ key 254
-      low = subst (λ (g : Graph). (e : ℕ) → e < g .arcs → g .weight e ≤ key 254) (sym graph-is) (weight-low (decode st))
+      low = subst (λ (g : Graph). (e : ℕ) → e < g .arcs → g .weight e ≤ key 254) (sym graph-is) (weight-low (decode st) (fits-of (k .opened)))
 
   pub searched-both-ways : BothWays (tableGraph m table)
   searched-both-ways = subst (λ (g : Graph). BothWays g) (ap (λ (n : Measures). tableGraph n (edgeTable (decode st))) (measures-are (k .opened)) ∙ ap (tableGraph m) (sym (k .filled))) (table-both-ways (fits-of (k .opened)))
 
   -- its arcs lead to portals
   leads : (a : ℕ) → a < sectors m * 400 → 0 < getD table a 0 → isPortal (decode st) (headOf (bare m) (a / 20) (a % 20)) ≡ true
-  leads = subst (λ (g : Graph). (a : ℕ) → a < g .arcs → 0 < g .weight a → isPortal (decode st) (g .head a) ≡ true) (sym graph-is) (head-portal (decode st))
+  leads = subst (λ (g : Graph). (a : ℕ) → a < g .arcs → 0 < g .weight a → isPortal (decode st) (g .head a) ≡ true) (sym graph-is) (head-portal (decode st) (fits-of (k .opened)))
 
   pub leads-to : (u a v : ℕ) → u ≡ a / 20 → v ≡ headOf (bare m) u (a % 20) → a < sectors m * 400 → 0 < getD table a 0 → isPortal (decode st) v ≡ true
   leads-to u a v e f l p = ap (isPortal (decode st)) (f ∙ ap (λ (x : ℕ). headOf (bare m) x (a % 20)) e) ∙ leads a l p
@@ -172,7 +145,7 @@ module _ {m : Measures} {st table keys : List ℕ} (k : Linked m st table (lengt
         inside = le;
         start = ok .rough .start;
         few = subst (λ (g : Graph). length (path g (nodeRank h) keys (getD keys p 0) p) ≤ sectors m * 20) (sym (graph-is k)) low;
-        tracing = subst (λ (g : Graph). Tracing g (nodeRank h) e p keys old old p 0) (sym (graph-is k)) (tracing-none ok (portal-sound h) (omega arith) below (omega arith));
+        tracing = subst (λ (g : Graph). Tracing g (nodeRank h) e p keys old old p 0) (sym (graph-is k)) (tracing-none ok (portal-sound h fits) (omega arith) below (omega arith));
       }
 
   module _ {p : ℕ} {old new : List ℕ} {u i : ℕ} (w : Walked m st table keys p old new u i) where

@@ -1,4 +1,3 @@
-pub mod Across
 pub mod EdgeTable
 pub mod Reading
 pub mod Weights

@@ -17,8 +17,7 @@ use Rattle.model.specs.Moves.{moves, movesTo, joined, apart}
 use Rattle.model.specs.MovesFewest.{joined-back, moves-settled}
 use Rattle.model.specs.Halls.{Hall}
 use Rattle.model.specs.Portals.{isPortal, midpoint, midCell}
-use Rattle.model.specs.LeastPathFirst.{Fits}
-use Rattle.graph.specs.Across.{portal-of, midpoint-low}
+use Rattle.model.specs.PortalCrossings.{Fits, mid-low, mid-sector, mid-place}
 
 -- the index of a portal's midpoint, or 100
 unfoldable pub midOf : Hall → ℕ → ℕ
@@ -104,11 +103,9 @@ module _ (h : Hall) (fits : Fits h) (x c : ℕ) (low : c < 20) where
     moved : getD (portalMoves h x) c 0 ≡ movesTo (h .scaled) x (midCell h number)
 
   there : isPortal h number ≡ true → There
-  unfolding midOf nearBy midCell movesTo
+  unfolding midOf nearBy movesTo
   there e =
-      let mid : midpoint h number < 100 = midpoint-low h fits number (portal-of h number e) in
-      let place : placeOf (number / 20 * 100 + midpoint h number) ≡ midpoint h number = omega arith in
-      record { sector = omega arith; moved = entry-is ∙ rw (e, lt-ltb (midpoint h number) 100 mid, place) }
+      record { sector = omega (arith, mid-sector h fits number e); moved = entry-is ∙ rw (e, lt-ltb (midpoint h number) 100 (mid-low h fits number e), mid-place h fits number e) }
 
   -- THE STARTS AND ENDS: a number's portal is joined to the cell exactly where the entry is below `apart`
   pub start-test : (isPortal h number && joined (h .scaled) x (midCell h number)) ≡ ltb (getD (portalMoves h x) c 0) apart

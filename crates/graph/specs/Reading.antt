@@ -12,15 +12,14 @@ use Rattle.model.specs.Cells.{sideNumber, sideAt}
 use Rattle.model.specs.Sectors.{sectors, cells}
 use Rattle.model.specs.Accepted.{Accepted}
 use Rattle.model.specs.Windows.{windowCount, firstPlace, lastPlace}
-use Rattle.model.specs.WindowRuns.{Run, window-run}
 use Rattle.model.specs.Portals.{portalMark, isPortal}
-use Rattle.model.specs.LeastPathFirst.{Fits}
+use Rattle.model.specs.Sides.{number-side}
+use Rattle.model.specs.PortalNumbers.{portal-is}
+use Rattle.model.specs.PortalCrossings.{Fits, portal-run}
 use Rattle.model.specs.Store.{u16At, measuresAt, sizeOf, decode}
 use Rattle.model.specs.StoreLayout.{marks-at}
 use Rattle.portal.specs.declared.runs.OpenRun.{OpenRun}
 use Rattle.portal.specs.Runs.{placesOf}
-use Rattle.model.specs.Sides.{number-side}
-use Rattle.graph.specs.Across.{portal-of}
 use Rattle.graph.specs.EdgeTable.{Opened, checked-fits}
 
 -- a window's first and last place, as they were found
@@ -61,15 +60,12 @@ module _ {m : Measures} {st : List ℕ} (o : Opened m st) where
   unfolding isPortal decode
   window-test p n = rw (o .read) (λ l e. rw (lt-ltb (p / 20) (sectors (measuresAt st)) l, e))
 
-  -- a portal's sector, and its window with first and last place
+  -- a portal's sector
   pub portal-sector : (p : ℕ) → isPortal (decode st) p ≡ true → p / 20 < sectors m
-  portal-sector p e = rw (← measures-are) (portal-of (decode st) p e .inside)
-
-  pub portal-run : (p : ℕ) → isPortal (decode st) p ≡ true → Run (portalMark (decode st) p) (p % 5)
-  portal-run p e = window-run (portalMark (decode st) p) (fits-of .marked (p / 20) (sideAt (p % 20 / 5))) (p % 5) (portal-of (decode st) p e .among)
+  portal-sector p e = rw (← measures-are) (portal-is (decode st) p e .inside)
 
   -- the places that were found of a portal's window
   pub places-of : (p : ℕ) → isPortal (decode st) p ≡ true → {n : ℕ} {w : OpenRun} → n ≡ portalMark (decode st) p → w ≡ placesOf n (p % 5) → Places (portalMark (decode st) p) (p % 5) w
   places-of p e q f =
-      let run = portal-run p e in
+      let run = portal-run (decode st) fits-of p e in
       rw (f, q) (record { begins = refl; ends = refl; low-first = omega (arith, run .ordered, run .inside); low-last = run .inside })

@@ -11,9 +11,10 @@ use Rattle.laws.specs.LeastCosts.{relaxed, relaxed-cases, Relaxed, taken, kept,
 use Rattle.laws.specs.Waiting.{Waiting, Serving, Held, awaited, work, work-arc}
 use Rattle.model.specs.declared.Measures.{Measures}
 use Rattle.model.specs.Sectors.{sectors}
+use Rattle.model.specs.Portals.{headOf}
+use Rattle.model.specs.PortalEdges.{head-other}
 use Rattle.graph.specs.EdgeTable.{bare, tableGraph}
 use Rattle.graph.specs.Extending.{Extends, entry, head-has, turn-arc, turn-ends}
-use Rattle.graph.specs.Weights.{head-other}
 use Rattle.graph.specs.Searching.{Searched}
 
 -- none of the first n places of u within its sector offers less than the portal there has
@@ -61,11 +62,13 @@ module _ {m : Measures} {table : List ℕ} (d p : List ℕ) (u : ℕ) (given : S
   other e q t n =
       let c : ℕ = e % 20 in
       let is : e ≡ u * 20 + c = omega arith in
+      let same : e / 20 / 20 * 20 + c ≡ u / 20 * 20 + c = omega (arith, ap (λ (x : ℕ). x / 20) t) in
+      let to : headOf (bare m) (e / 20) c ≡ u / 20 * 20 + c = head-other (bare m) (e / 20) c (λ z. n (omega (arith, is, z, ap (λ (x : ℕ). x % 20) t))) ∙ same in
       omega (
         arith,
         none c (omega arith) (omega (arith, ap (λ (x : ℕ). getD table x 0) is)),
         ap (λ (x : ℕ). getD table x 0) is,
-        ap (λ (x : ℕ). getD d x 0) (head-other (bare m) (e / 20) c {q = u / 20 * 20 + c} (λ z. n (omega (arith, is, z, ap (λ (x : ℕ). x % 20) t))) (omega (arith, ap (λ (x : ℕ). x / 20) t))),
+        ap (λ (x : ℕ). getD d x 0) to,
       )
 
   -- nor after the arc to the facing portal was taken

@@ -17,11 +17,11 @@ use Rattle.model.specs.Cells.{sideAt}
 use Rattle.model.specs.Sectors.{sectors, cells, sectorOf, placeOf, costsOf, hasBeyond}
 use Rattle.model.specs.Moves.{moves, apart}
 use Rattle.model.specs.Halls.{Hall}
-use Rattle.model.specs.Portals.{isPortal, midpoint, facing, headOf, key, outerEdge, innerEdge, edgeAt, portalGraph}
-use Rattle.model.specs.LeastPathFirst.{Fits, weight-at}
+use Rattle.model.specs.Portals.{isPortal, midpoint, movesFrom, facing, key, outerEdge, innerEdge, edgeAt, portalGraph}
+use Rattle.model.specs.PortalCrossings.{Fits, mid-low}
+use Rattle.model.specs.PortalEdges.{weight-at}
 use Rattle.model.specs.Store.{measuresAt, decode}
 use Rattle.model.specs.StoreLayout.{decode-laid, scaled-at}
-use Rattle.graph.specs.Across.{portal-of, midpoint-low, movesFrom}
 use Rattle.graph.specs.EdgeTable.{Opened, bare}
 use Rattle.graph.specs.Near.{midOf, sectorMids, nearBy, mid-some, mid-none}
 
@@ -29,16 +29,6 @@ use Rattle.graph.specs.Near.{midOf, sectorMids, nearBy, mid-some, mid-no
 pub outer-is : {m : Measures} {st : List ℕ} → Opened m st → (p : ℕ) (x y : Bool) {side : Side} {b d : Bool} {q : ℕ} → side ≡ sideAt (p % 20 / 5) → b ≡ hasBeyond m (p / 20) side → b ≡ x → q ≡ facing (bare m) p → d ≡ isPortal (decode st) q → d ≡ y → pick (x && y) (key 1) 0 ≡ outerEdge (decode st) p
 unfolding outerEdge facing decode
 outer-is o p x y e f b g k d = rw (← b, ← d, k, g, f, e, o .read) refl
-
--- the portal to which place c of portal p leads
-module _ (h : Hall) (p c : ℕ) {q : ℕ} where
-  pub head-own : c ≡ p % 20 → q ≡ facing h p → q ≡ headOf h p c
-  unfolding headOf
-  head-own e f = rw (eq-eqb c (p % 20) e) f
-
-  pub head-other : (c ≡ p % 20 → ⊥) → q ≡ p / 20 * 20 + c → q ≡ headOf h p c
-  unfolding headOf
-  head-other e f = rw (ne-eqb c (p % 20) e) f
 
 -- ---- the edges of a portal as code finds them: the moves from its midpoint are spread once, the midpoints of its sector are known
 -- the edge at place c, which has midpoint `mid`; at the portal's own place stands the edge to the facing one
@@ -64,7 +54,7 @@ unfolding innerEdge midOf nearBy
 inner-by h fits from q = go (isPortal h q) refl
   where
     go : (t : Bool) → isPortal h q ≡ t → pick (ltb (nearBy from (midOf h q)) apart) (key (nearBy from (midOf h q))) 0 ≡ innerEdge h from q
-    go true e = rw (e, lt-ltb (midpoint h q) 100 (midpoint-low h fits q (portal-of h q e)))
+    go true e = rw (e, lt-ltb (midpoint h q) 100 (mid-low h fits q e))
     go false e = rw e refl
 
 -- what the midpoints of its sector say of number p
@@ -84,7 +74,7 @@ module _ (h : Hall) (p : ℕ) {mids : List ℕ} (given : mids ≡ sectorMids h (
   own-none fits l = go (isPortal h p) refl
     where
       go : (t : Bool) → isPortal h p ≡ t → isPortal h p ≡ false
-      go true e = absurd (omega (arith, own-mid, mid-some h p e refl, midpoint-low h fits p (portal-of h p e)))
+      go true e = absurd (omega (arith, own-mid, mid-some h p e refl, mid-low h fits p e))
       go false e = e
 
   pub own-some : getD mids (p % 20) 0 < 100 → (isPortal h p ≡ true) × (getD mids (p % 20) 0 ≡ midpoint h p)

@@ -9,7 +9,7 @@ use Rattle.model.specs.declared.FieldCell.{FieldCell}
 use Rattle.model.specs.Cells.{sideNumber}
 use Rattle.model.specs.Windows.{borderCell, firstPlace, lastPlace}
 use Rattle.model.specs.Halls.{Hall}
-use Rattle.model.specs.Portals.{portalSector, portalSide, portalWindow, portalMark}
+use Rattle.model.specs.Portals.{portalSector, portalSide, portalWindow, portalMark, keyStep}
 
 -- a cell's place in that order
 abbrev pub cellRank : FieldCell → ℕ
@@ -31,7 +31,7 @@ unfoldable pub keysTo : Graph → ℕ → List ℕ
 keysTo g e = least-costs (turned g) e unlinked
 
 abbrev pub costOfKey : ℕ → ℕ
-costOfKey k = k / 4096
+costOfKey k = k / keyStep
 
 -- the path from p: "then, at the first difference, the portal first in `PortalNode` order"
 unfoldable pub leastPath : Hall → Graph → List ℕ → ℕ → List ℕ

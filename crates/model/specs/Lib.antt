@@ -18,12 +18,16 @@ pub mod Windows
 pub mod WindowRuns
 pub mod Halls
 pub mod Portals
+pub mod PortalNumbers
+pub mod PortalCrossings
+pub mod PortalEdges
 pub mod Change
 pub mod Nearby
 pub mod ScaleKeeps
 pub mod ScaleLengths
 pub mod ScaleOne
 pub mod LeastPath
+pub mod PortalOrder
 pub mod LeastPathFirst
 pub mod Route
 pub mod RouteChosen

@@ -7,22 +7,44 @@ use lib.ListN.{getD, replicate}
 use Rattle.laws.specs.Fold.{pick}
 use Rattle.laws.specs.Table.{tabulate}
 use Rattle.laws.specs.Graph.{Graph}
+use Rattle.model.specs.declared.PortalWindow.{PortalWindow}
 use Rattle.model.specs.declared.Side.{Side}
 use Rattle.model.specs.Cells.{sideNumber, sideAt, opposite}
 use Rattle.model.specs.Sectors.{sectors, floorNumber, costsOf, beyond, hasBeyond}
 use Rattle.model.specs.Moves.{moves, apart}
-use Rattle.model.specs.Windows.{border, windowCount, crossing}
+use Rattle.model.specs.Windows.{border, windowCount, crossing, windowAt}
 use Rattle.model.specs.Halls.{Hall, markAt}
 
--- "A portal is a sector and a window": its sector, side and window
+-- the numbers for portals of a side and of a sector, and the arcs of a sector: 20 for each of its numbers
+abbrev pub sidePortals : ℕ
+sidePortals = 5
+
+abbrev pub sectorPortals : ℕ
+sectorPortals = 20
+
+abbrev pub sectorArcs : ℕ
+sectorArcs = 400
+
+-- "A portal is a sector and a window": the number from sector, side and window
+abbrev pub portalAt : ℕ → Side → ℕ → ℕ
+portalAt s side j = s * sectorPortals + sideNumber side * sidePortals + j
+
+-- and back
 abbrev pub portalSector : ℕ → ℕ
-portalSector p = p / 20
+portalSector p = p / sectorPortals
 
 abbrev pub portalSide : ℕ → Side
-portalSide p = sideAt (p % 20 / 5)
+portalSide p = sideAt (p % sectorPortals / sidePortals)
 
 abbrev pub portalWindow : ℕ → ℕ
-portalWindow p = p % 5
+portalWindow p = p % sidePortals
+
+-- its place among the numbers of its sector, and the number at a place
+abbrev pub portalPlace : ℕ → ℕ
+portalPlace p = p % sectorPortals
+
+abbrev pub placePortal : ℕ → ℕ → ℕ
+placePortal s c = s * sectorPortals + c
 
 abbrev pub portalMark : Hall → ℕ → ℕ
 portalMark h p = markAt h (portalSector p) (portalSide p)
@@ -30,24 +52,38 @@ portalMark h p = markAt h (portalSector p) (portalSide p)
 unfoldable pub isPortal : Hall → ℕ → Bool
 isPortal h p = ltb (portalSector p) (sectors (h .measures)) && ltb (portalWindow p) (windowCount (portalMark h p))
 
--- the index of a portal's midpoint, and its floor number
+-- the window of a portal
+abbrev pub windowOf : Hall → ℕ → PortalWindow
+windowOf h p = windowAt (portalSide p) (portalMark h p) (portalWindow p)
+
+-- the crossing of a portal: its place on the side, the index of its cell (01's midpoint), and the floor number of that
+abbrev pub crossingOf : Hall → ℕ → ℕ
+crossingOf h p = crossing (portalMark h p) (portalWindow p)
+
 unfoldable pub midpoint : Hall → ℕ → ℕ
-midpoint h p = border (portalSide p) (crossing (portalMark h p) (portalWindow p))
+midpoint h p = border (portalSide p) (crossingOf h p)
 
 unfoldable pub midCell : Hall → ℕ → ℕ
 midCell h p = floorNumber (portalSector p) (midpoint h p)
 
+-- the moves from a portal's midpoint to the cells of its sector
+abbrev pub movesFrom : Hall → ℕ → List ℕ
+movesFrom h p = moves (costsOf (h .scaled) (portalSector p)) (midpoint h p)
+
 -- the portal of the same number on the facing side
 unfoldable pub facing : Hall → ℕ → ℕ
-facing h p = beyond (h .measures) (portalSector p) (portalSide p) * 20 + sideNumber (opposite (portalSide p)) * 5 + portalWindow p
+facing h p = portalAt (beyond (h .measures) (portalSector p) (portalSide p)) (opposite (portalSide p)) (portalWindow p)
 
 -- place c of portal p leads to portal c of its sector, and p's own place to the facing portal
 unfoldable pub headOf : Hall → ℕ → ℕ → ℕ
-headOf h p c = pick (eqb c (p % 20)) (facing h p) (portalSector p * 20 + c)
+headOf h p c = pick (eqb c (portalPlace p)) (facing h p) (placePortal (portalSector p) c)
 
 -- an edge of weight w as a key: 4,096 × w + 1; 0 says that there is no edge
+abbrev pub keyStep : ℕ
+keyStep = 4096
+
 abbrev pub key : ℕ → ℕ
-key w = 4096 * w + 1
+key w = keyStep * w + 1
 
 -- "The i-th windows of facing sides have an edge of weight 1, for i below the smaller count"
 unfoldable pub outerEdge : Hall → ℕ → ℕ
@@ -59,26 +95,36 @@ innerEdge h from q = pick (isPortal h q && ltb (getD from (midpoint h q) 0) apar
 
 -- the 20 edges of a portal by place
 unfoldable pub edgeAt : Hall → ℕ → List ℕ → ℕ → ℕ
-edgeAt h p from c = pick (eqb c (p % 20)) (outerEdge h p) (innerEdge h from (portalSector p * 20 + c))
+edgeAt h p from c = pick (eqb c (portalPlace p)) (outerEdge h p) (innerEdge h from (placePortal (portalSector p) c))
 
 unfoldable pub edgesFrom : Hall → ℕ → List ℕ → List ℕ
-edgesFrom h p from = tabulate (edgeAt h p from) 20 0
+edgesFrom h p from = tabulate (edgeAt h p from) sectorPortals 0
 
 unfoldable pub edgesOf : Hall → ℕ → List ℕ
-edgesOf h p = pick (isPortal h p) (edgesFrom h p (moves (costsOf (h .scaled) (portalSector p)) (midpoint h p))) (replicate 20 0)
+edgesOf h p = pick (isPortal h p) (edgesFrom h p (movesFrom h p)) (replicate sectorPortals 0)
 
 -- the edges of all portals
 unfoldable pub edges : Hall → List (List ℕ)
-edges h = tabulate (edgesOf h) (sectors (h .measures) * 20) 0
+edges h = tabulate (edgesOf h) (sectors (h .measures) * sectorPortals) 0
 
--- the portal graph: arc e is place e % 20 of portal e / 20
+-- arc e is place e % 20 of portal e / 20
+abbrev pub arcTail : ℕ → ℕ
+arcTail e = e / sectorPortals
+
+abbrev pub arcPlace : ℕ → ℕ
+arcPlace e = e % sectorPortals
+
+abbrev pub arcAt : ℕ → ℕ → ℕ
+arcAt p c = p * sectorPortals + c
+
+-- the portal graph
 abbrev pub graphOf : Hall → List (List ℕ) → Graph
 graphOf h table = record {
-  nodes = sectors (h .measures) * 20;
-  arcs = sectors (h .measures) * 400;
-  tail = λ e. e / 20;
-  head = λ e. headOf h (e / 20) (e % 20);
-  weight = λ e. getD (getD table (e / 20) []) (e % 20) 0;
+  nodes = sectors (h .measures) * sectorPortals;
+  arcs = sectors (h .measures) * sectorArcs;
+  tail = arcTail;
+  head = λ e. headOf h (arcTail e) (arcPlace e);
+  weight = λ e. getD (getD table (arcTail e) []) (arcPlace e) 0;
 }
 
 unfoldable pub portalGraph : Hall → Graph

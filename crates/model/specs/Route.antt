@@ -14,17 +14,16 @@ use Rattle.model.specs.declared.RouteStep.{RouteStep}
 use Rattle.model.specs.Sectors.{sectorOf, placeOf, sectorAt}
 use Rattle.model.specs.Steps.{windowStep, lastStep}
 use Rattle.model.specs.Moves.{movesTo, joined}
-use Rattle.model.specs.Windows.{windowAt}
 use Rattle.model.specs.Halls.{Hall}
-use Rattle.model.specs.Portals.{portalSector, portalSide, portalWindow, portalMark, isPortal, midpoint, midCell, portalGraph}
+use Rattle.model.specs.Portals.{sectorPortals, portalSector, isPortal, windowOf, midpoint, midCell, portalGraph}
 use Rattle.model.specs.LeastPath.{unlinked, keysTo, costOfKey, leastPath}
 
 -- "start portals are those joined to the source, end portals those joined to the goal, listed N, E, S, W"
 unfoldable pub starts : Hall → ℕ → List ℕ
-starts h source = passing (λ p. isPortal h p && joined (h .scaled) source (midCell h p)) 20 (sectorOf source * 20)
+starts h source = passing (λ p. isPortal h p && joined (h .scaled) source (midCell h p)) sectorPortals (sectorOf source * sectorPortals)
 
 unfoldable pub ends : Hall → ℕ → List ℕ
-ends h goal = passing (λ p. isPortal h p && joined (h .scaled) (midCell h p) goal) 20 (sectorOf goal * 20)
+ends h goal = passing (λ p. isPortal h p && joined (h .scaled) (midCell h p) goal) sectorPortals (sectorOf goal * sectorPortals)
 
 -- an end portal, with the keys of the least paths to it from each portal, and "moves from the end midpoint to the goal"
 pub record End : Type 0 where
@@ -57,7 +56,7 @@ chosenPair h g source goal = winner runOf Option.none (routePairs h g source goa
 
 -- the step at a portal: its midpoint and its window
 unfoldable pub stepAt : Hall → ℕ → RouteStep
-stepAt h p = windowStep (sectorAt (h .measures) (portalSector p)) (midpoint h p) (windowAt (portalSide p) (portalMark h p) (portalWindow p))
+stepAt h p = windowStep (sectorAt (h .measures) (portalSector p)) (midpoint h p) (windowOf h p)
 
 -- "Of the path, steps are position 0, each even position, and the last, which has the goal and no window": `even` says whether the path's head stands at an even position
 unfoldable pub stepsOf : Hall → ℕ → Bool → List ℕ → List RouteStep

@@ -20,7 +20,8 @@ use Rattle.model.specs.Windows.{windowCount}
 use Rattle.model.specs.Halls.{Hall}
 use Rattle.model.specs.Portals.{portalSector, portalWindow, portalMark, isPortal, midCell, portalGraph}
 use Rattle.model.specs.LeastPath.{nodeRank, unlinked, keysTo, leastPath}
-use Rattle.model.specs.LeastPathFirst.{Fits, portal-keyed, keys-settled}
+use Rattle.model.specs.PortalCrossings.{Fits}
+use Rattle.model.specs.LeastPathFirst.{portal-keyed, keys-settled}
 use Rattle.model.specs.Route.{Pair, starts, ends, endOf, linkedPair, runOf, routePairs, chosenPair, stepsOf, throughPair, throughPortals, oneStep, routeOf}
 use Rattle.model.specs.RouteChosen.{link-is}
 use Rattle.model.specs.Store.{decode}

@@ -18,7 +18,7 @@ use Rattle.model.specs.Moves.{joined, apart}
 use Rattle.model.specs.Halls.{Hall}
 use Rattle.model.specs.Portals.{isPortal, midCell, portalGraph}
 use Rattle.model.specs.LeastPath.{unlinked, keysTo, costOfKey}
-use Rattle.model.specs.LeastPathFirst.{Fits}
+use Rattle.model.specs.PortalCrossings.{Fits}
 use Rattle.model.specs.Route.{starts, ends, endOf, Pair, linkedPair, runOf, routePairs, chosenPair}
 use Rattle.graph.specs.Near.{portalMoves, start-test, end-test, last-moves}
 

@@ -22,7 +22,7 @@ use Rattle.model.specs.MovesFewest.{joined-is}
 use Rattle.model.specs.Halls.{Hall}
 use Rattle.model.specs.Portals.{isPortal, portalGraph}
 use Rattle.model.specs.LeastPath.{unlinked, keysTo, costOfKey, leastPath}
-use Rattle.model.specs.LeastPathFirst.{Fits}
+use Rattle.model.specs.PortalCrossings.{Fits}
 use Rattle.model.specs.Route.{Found, none, route, endOf, runOf, stepsOf, chosenPair, throughPair, throughPortals, oneStep, routeOf}
 use Rattle.model.specs.Calls.{ifAccepted, stepList, routed}
 use Rattle.graph.specs.Near.{leg-moves, last-moves, near-portal}

@@ -9,7 +9,7 @@ use Rattle.model.specs.Sides.{side-low}
 use Rattle.model.specs.Portals.{portalMark}
 use Rattle.model.specs.LeastPath.{cellRank}
 use Rattle.model.specs.Store.{decode}
-use Rattle.graph.specs.Across.{portal-of}
+use Rattle.model.specs.PortalNumbers.{portal-is}
 use Rattle.graph.specs.Reading.{Places, accepted-of, portal-sector, places-of}
 use Rattle.graph.specs.Following.{rank-is}
 use Rattle.graph.proofs.path.node_rank.Statement.{statement}
@@ -33,7 +33,7 @@ mark-of-requires c κs = let start = c .before .before in (start .pre .0, portal
 window-at-requires : tie.Need-window-at-requires
 window-at-requires c κs =
     let start = c .before .before .before in
-    (c .mark-of .ensures .1, rw (c .mark-of .ensures .0) (portal-of (decode (now (start .args .st))) (start .args .p) (start .pre .1) .among))
+    (c .mark-of .ensures .1, rw (c .mark-of .ensures .0) (portal-is (decode (now (start .args .st))) (start .args .p) (start .pre .1) .among))
 
 border-rank-requires : tie.Need-border-rank-requires
 border-rank-requires c κs = found c .low-first

@@ -8,7 +8,8 @@ use Rattle.model.specs.Windows.{border, firstPlace, lastPlace, crossing}
 use Rattle.model.specs.declared.Side.{Side}
 use Rattle.model.specs.Portals.{portalMark, midpoint}
 use Rattle.model.specs.Store.{decode}
-use Rattle.graph.specs.Across.{midpoint-low, portal-of}
+use Rattle.model.specs.PortalNumbers.{portal-is}
+use Rattle.model.specs.PortalCrossings.{mid-low}
 use Rattle.graph.specs.Reading.{Places, fits-of, portal-sector, places-of}
 use Rattle.graph.proofs.portals.midpoint.Statement.{statement}
 use Rattle.graph.proofs.portals.midpoint.Tie as tie
@@ -29,7 +30,7 @@ mark-of-requires c κs = (c .before .pre .0, portal-sector (c .before .pre .0) (
 window-at-requires : tie.Need-window-at-requires
 window-at-requires c κs =
     let start = c .before .before in
-    (c .mark-of .ensures .1, rw (c .mark-of .ensures .0) (portal-of (decode (now (start .args .st))) (start .args .p) (start .pre .1) .among))
+    (c .mark-of .ensures .1, rw (c .mark-of .ensures .0) (portal-is (decode (now (start .args .st))) (start .args .p) (start .pre .1) .among))
 
 side-at-requires : tie.Need-side-at-requires
 side-at-requires c κs = search needs
@@ -49,7 +50,7 @@ returns c =
     let at = c .before .before .before .before in
     let start = S at in
     let is = c .wide .ensures .0 ∙ c .before .border-index .ensures ∙ same (portalMark (decode (now (start .args .st))) (start .args .p)) (start .args .p % 5) (c .before .before .before .side-at .ensures) (found at .begins) (found at .ends) in
-    (is, omega (arith, is, midpoint-low (decode (now (start .args .st))) (fits-of (start .pre .0)) (start .args .p) (portal-of (decode (now (start .args .st))) (start .args .p) (start .pre .1))))
+    (is, omega (arith, is, mid-low (decode (now (start .args .st))) (fits-of (start .pre .0)) (start .args .p) (start .pre .1)))
 
 pub midpoint-spec : {M : Type 1} → statement M
 midpoint-spec =

@@ -9,9 +9,9 @@ use Rattle.laws.specs.Graph.{Graph}
 use Rattle.model.specs.Sectors.{sectors}
 use Rattle.model.specs.Portals.{portalGraph}
 use Rattle.model.specs.LeastPath.{unlinked, keysTo}
-use Rattle.model.specs.LeastPathFirst.{Fits}
+use Rattle.model.specs.PortalCrossings.{Fits}
 use Rattle.model.specs.Store.{decode}
-use Rattle.graph.specs.Across.{portal-of}
+use Rattle.model.specs.PortalNumbers.{portal-is}
 use Rattle.graph.specs.Reading.{accepted-of, fits-of, measures-are}
 use Rattle.graph.specs.Following.{Linked, graph-is, searched-of, searched-both-ways}
 use Rattle.route.specs.Finding.{taken-few, taken-path, pair-no-room, pair-written}
@@ -29,7 +29,7 @@ same-sectors : (s : tie.Start) → sectors (decode (now (s .args .st)) .measures
 same-sectors s = ap sectors (measures-are (s .pre .0 .opened))
 
 start-low : (s : tie.Start) → s .args .p < sectors (s .args .m) * 20
-start-low s = omega (arith, portal-of _ _ (s .pre .1 .start) .inside, same-sectors s)
+start-low s = omega (arith, portal-is _ _ (s .pre .1 .start) .inside, same-sectors s)
 
 fits : (s : tie.Start) → Fits (decode (now (s .args .st)))
 fits s = fits-of (s .pre .0 .opened)

@@ -15,7 +15,7 @@ use Rattle.model.specs.Halls.{Hall}
 use Rattle.model.specs.Portals.{portalSector, portalSide, portalWindow, portalMark, midpoint}
 use Rattle.model.specs.Route.{stepAt}
 use Rattle.model.specs.Store.{decode}
-use Rattle.graph.specs.Across.{portal-of}
+use Rattle.model.specs.PortalNumbers.{portal-is}
 use Rattle.graph.specs.Reading.{measures-are, accepted-of, portal-sector}
 use Rattle.route.proofs.steps.step_at.Statement.{statement}
 use Rattle.route.proofs.steps.step_at.Tie as tie
@@ -46,7 +46,7 @@ mark-of-requires c κs =
 window-of-requires : tie.Need-window-of-requires
 window-of-requires c κs =
     let start = c .before .before .before .before .before in
-    (c .mark-of .ensures .1, rw (c .mark-of .ensures .0) (portal-of (decode (now (start .args .st))) (start .args .p) (start .pre .1) .among))
+    (c .mark-of .ensures .1, rw (c .mark-of .ensures .0) (portal-is (decode (now (start .args .st))) (start .args .p) (start .pre .1) .among))
 
 byte-requires : tie.Need-byte-requires
 byte-requires c κs = search needs
