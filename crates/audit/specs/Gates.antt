@@ -126,7 +126,7 @@ module _ (h : Hall) (fresh : Fresh h) where
       from′ : (n : ℕ) × (n ≤ 5) × Inside floor (floorNumber t (border (opposite k) (crossing (markAt h t (opposite k)) j))) (floorNumber t (border (opposite k) i)) n
       from′ = from-mid s on k there j (in-window .0) i (in-window .1) (in-window .2)
 
-  gate : (x y : ℕ) → floor .Cross x y → GateBy x y
+  pub gate : (x y : ℕ) → floor .Cross x y → GateBy x y
   gate x y c =
       let w = cross-leaving (h .measures) (h .scaled) (fresh .sized) x y c in
       let leaves = subst (λ (a : ℕ). openAt (h .scaled) a ≡ true) (w .from-is) (c .leaves) in
@@ -134,14 +134,14 @@ module _ (h : Hall) (fresh : Fresh h) where
       subst₂ GateBy (sym (w .from-is)) (sym (w .to-is)) (gate-at (w .sector) (w .on) (w .side) (w .there) (w .at) (w .in-side) leaves enters)
 
   -- ---- edges
-  facing-cross : (p : ℕ) → isPortal h p ≡ true → floor .Cross (midCell h p) (midCell h (facing h p))
+  pub facing-cross : (p : ℕ) → isPortal h p ≡ true → floor .Cross (midCell h p) (midCell h (facing h p))
   unfolding midCell midpoint facing
   facing-cross p e =
       let a = portal-is h p e in
       rw (cell-at h (beyond (h .measures) (portalSector p) (portalSide p)) (opposite (portalSide p)) (portalWindow p) (omega arith))
       (mid-cross (portalSector p) (a .inside) (portalSide p) (portal-beyond h fresh p e) (portalWindow p) (a .among))
 
-  edge-real : {p q w : ℕ} → Edge h p q w → Inside floor (midCell h p) (midCell h q) w ⊎ ((w ≡ 1) × floor .Cross (midCell h p) (midCell h q))
+  pub edge-real : {p q w : ℕ} → Edge h p q w → Inside floor (midCell h p) (midCell h q) w ⊎ ((w ≡ 1) × floor .Cross (midCell h p) (midCell h q))
   edge-real {p} {q} {w} (outer a b there f u) = inr (u, rw f (facing-cross p a))
   edge-real {p} {q} {w} (inner a b d j u) = inl (rw u (joined-inside (h .measures) (h .scaled) (midCell h p) (midCell h q) j))
 

@@ -16,7 +16,7 @@ use Rattle.model.specs.Sectors.{cells}
 use Rattle.model.specs.Account.{Call, change, route, Account, fed, accountAfter}
 use Rattle.model.specs.Store.{decode, written}
 use Rattle.model.specs.Calls.{ifAccepted, buildNumber, built, buildInto, checkNumber, changeNumber, changeInto, storeAfterCall, storeAfter}
-use Rattle.audit.specs.Gates.{Fresh}
+use Rattle.audit.specs.FreshMarks.{Fresh}
 use Rattle.audit.specs.StoreAfter.{accepts, fresh, decoded, checks, changed-one, refused-off, refused-leaves}
 
 -- ---- the definition
