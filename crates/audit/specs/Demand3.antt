@@ -80,7 +80,7 @@ module _ {a : Account} {lent st : List ℕ} (r : Reached a lent st) {source goal
       let w = kept .exactly-when .0 (leg, run, g) in
       let from = on-floor source (walk-starts (w .2)) in
       let to = on-floor goal (walk-ends (w .2)) in
-      let few = route-room hall is-fresh source goal apart-there (g .0) leg run (g .1) in
+      let few = route-room hall is-fresh source goal (g .0) leg run (g .1) in
       let enough = le-ltb room (length (g .0)) (omega (arith, asked .roomy)) in
       (length (g .0), leg, run, answer-is ∙ rw (g .1, lt-leb (cells (a .measures)) source from, lt-leb (cells (a .measures)) goal to, enough))
 

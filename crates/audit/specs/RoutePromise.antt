@@ -4,30 +4,29 @@ use native.Mathlib.Omega.{arith}
 use mathlib.Core.Path.{_≡_, refl, sym, ap, ap₂, _∙_}
 use mathlib.Core.Bool.{Bool, true, false, _&&_, true≢false}
 use mathlib.Core.Option.{Option, some}
-use mathlib.Core.List.{List, [], _∷_, map, Memᴰ·map, Memᴰ·of-map}
+use mathlib.Core.List.{List, [], _∷_}
 use lib.Dec.{ltb}
 use lib.ListN.{length, getD}
 use borrow.Author.Tests.{ltb-true, lt-ltb}
-use Rattle.laws.specs.Search.{both, passing-is, passing-has}
+use Rattle.laws.specs.Search.{both}
 use Rattle.laws.specs.Graph.{Graph}
-use Rattle.laws.specs.Keys.{Journey, arrived, onward, Before, cheaper, shorter, earlier, few-edges}
-use Rattle.laws.specs.Members.{In, pairs-is, pairs-has}
-use Rattle.laws.specs.Winner.{winner, winner-in}
+use Rattle.laws.specs.Keys.{Journey, arrived, onward, Before, cheaper, shorter, earlier}
+use Rattle.laws.specs.Members.{In}
+use Rattle.laws.specs.Winner.{winner}
 use Rattle.laws.specs.Floor.{Inside}
 use Rattle.laws.specs.Detour.{Path, at, along, Lengths, Pair, leg-of, run-of, Chosen, Promise, promise, Winning, chosen}
 use Rattle.model.specs.declared.RouteStep.{RouteStep}
-use Rattle.model.specs.Sectors.{sectorOf}
 use Rattle.model.specs.Moves.{movesTo, joined}
-use Rattle.model.specs.MovesFewest.{joined-is}
 use Rattle.model.specs.Halls.{Hall}
-use Rattle.model.specs.Portals.{portalSector, isPortal, midCell, portalGraph}
-use Rattle.model.specs.LeastPath.{nodeRank, unlinked, keysTo, costOfKey, leastPath}
-use Rattle.model.specs.PortalCrossings.{mid-sector}
+use Rattle.model.specs.Portals.{isPortal, midCell, portalGraph}
+use Rattle.model.specs.LeastPath.{unlinked, keysTo, costOfKey, leastPath}
 use Rattle.model.specs.PortalEdges.{arc-edge, edge-arc, edge-to, portal-node}
-use Rattle.model.specs.LeastPathFirst.{edgeCost, portal-keyed, keys-settled, linked, least-path}
-use Rattle.model.specs.Route.{End, starts, ends, endOf, linkedPair, runOf, routePairs, chosenPair, stepsOf, route, none, throughPair, throughPortals, routeOf}
+use Rattle.model.specs.LeastPathFirst.{edgeCost, linked, least-path}
+use Rattle.model.specs.Route.{endOf, runOf, routePairs, chosenPair, stepsOf, route, none, throughPair, throughPortals, routeOf}
 use Rattle.model.specs.Route as choice
-use Rattle.model.specs.RouteChosen.{link-is, link-has}
+use Rattle.model.specs.RoutePairs.{Candidate, pairOf, pair-is, is-pair}
+use Rattle.model.specs.Calls.{stepList}
+use Rattle.model.specs.FewSteps.{few-steps}
 use Rattle.audit.specs.Crossings.{floorOf}
 use Rattle.audit.specs.SectorMoves.{fewest, inside-joined}
 use Rattle.audit.specs.FreshMarks.{Fresh, fits}
@@ -39,13 +38,6 @@ same-found e = (cc, cc, cc)
 
 pub none-found : {s : List RouteStep} {a b : ℕ} → none ≡ route s a b → ⊥
 none-found e = let z : _≡_ {A = ℕ} 0 1 = cc in omega arith
-
--- of a path of so many portals at most half are listed, and one more
-steps-few : (h : Hall) (goal : ℕ) (path : List ℕ) → (2 * length (stepsOf h goal true path) ≤ length path + 2) × (2 * length (stepsOf h goal false path) ≤ length path + 1)
-unfolding stepsOf
-steps-few h goal [] = (omega arith, omega arith)
-steps-few h goal (p ∷ []) = (omega arith, omega arith)
-steps-few h goal (p ∷ q ∷ rest) = let less = steps-few h goal (q ∷ rest) in (omega (arith, less .1), omega (arith, less .0))
 
 module _ (h : Hall) (fresh : Fresh h) where
   abbrev g : Graph
@@ -139,67 +131,40 @@ module _ (h : Hall) (fresh : Fresh h) where
   abbrev candidates : ℕ → ℕ → List choice.Pair
   candidates source goal = routePairs h g source goal
 
-  -- the lists of starts and ends hold what they say
-  start-is : (source p : ℕ) → In p (starts h source) → (isPortal h p ≡ true) × (joined (h .scaled) source (midCell h p) ≡ true)
-  unfolding starts
-  start-is source p i = both (isPortal h p) (joined (h .scaled) source (midCell h p)) (passing-is (λ q. isPortal h q && joined (h .scaled) source (midCell h q)) 20 (sectorOf source * 20) i .2)
-
-  start-has : (source p : ℕ) → isPortal h p ≡ true → joined (h .scaled) source (midCell h p) ≡ true → In p (starts h source)
-  unfolding starts
-  start-has source p a j =
-      let s : sectorOf source ≡ portalSector p = joined-is (h .scaled) source (midCell h p) j .sector ∙ mid-sector h (fits h fresh) p a in
-      passing-has (λ q. isPortal h q && joined (h .scaled) source (midCell h q)) 20 (sectorOf source * 20) p (omega arith) (omega arith) (rw (a, j))
-
-  end-is : (goal e : ℕ) → In e (ends h goal) → (isPortal h e ≡ true) × (joined (h .scaled) (midCell h e) goal ≡ true)
-  unfolding ends
-  end-is goal e i = both (isPortal h e) (joined (h .scaled) (midCell h e) goal) (passing-is (λ q. isPortal h q && joined (h .scaled) (midCell h q) goal) 20 (sectorOf goal * 20) i .2)
-
-  end-has : (goal e : ℕ) → isPortal h e ≡ true → joined (h .scaled) (midCell h e) goal ≡ true → In e (ends h goal)
-  unfolding ends
-  end-has goal e a j =
-      let s : portalSector e ≡ sectorOf goal = sym (mid-sector h (fits h fresh) e a) ∙ joined-is (h .scaled) (midCell h e) goal j .sector in
-      passing-has (λ q. isPortal h q && joined (h .scaled) (midCell h q) goal) 20 (sectorOf goal * 20) e (omega arith) (omega arith) (rw (a, j))
-
   -- ---- 01's choice
   module _ (source goal : ℕ) where
-    candidate-is : (z : choice.Pair) → In z (candidates source goal)
-        → Pair (portals h fresh) lengths source goal (z .start) (end-of z) × (leg-by source z ≡ leg-of (portals h fresh) lengths source (z .start)) × (runOf z ≡ run-of (portals h fresh) lengths goal (z .start) (end-of z))
-    unfolding routePairs end-of leg-by runOf endOf lengths costBy
-    candidate-is z i = made (pairs-is linkedPair (starts h source) (map (endOf h g goal) (ends h goal)) i)
-      where
-        made : (p : ℕ) × (e : End) × In p (starts h source) × In e (map (endOf h g goal) (ends h goal)) × In z (linkedPair p e)
-            → Pair (portals h fresh) lengths source goal (z .start) (end-of z) × (leg-by source z ≡ leg-of (portals h fresh) lengths source (z .start)) × (runOf z ≡ run-of (portals h fresh) lengths goal (z .start) (end-of z))
-        made w =
-            let e = Memᴰ·of-map (endOf h g goal) (ends h goal) (w .3) in
-            let s = start-is source (w .0) (w .2) in
-            let t = end-is goal (e .0) (e .1) in
-            let k = link-is (w .0) (w .1) (w .4) in
-            rw (k .0, ← (e .2))
-            (record { start-is = s .0; end-is = t .0; start-joined = s .1; end-joined = t .1; pair-linked = is-linked (w .0) (e .0) (record { start = s .0; end = t .0; key = rw (← (e .2)) at (k .1) }) }, refl, refl)
+    abbrev Made : choice.Pair → Type 0
+    Made z =
+        Pair (portals h fresh) lengths source goal (z .start) (end-of z)
+        × (leg-by source z ≡ leg-of (portals h fresh) lengths source (z .start))
+        × (runOf z ≡ run-of (portals h fresh) lengths goal (z .start) (end-of z))
+
+    candidate-is : (z : choice.Pair) → In z (candidates source goal) → Made z
+    unfolding end-of leg-by runOf endOf lengths costBy
+    candidate-is z i =
+        let x = pair-is h g source goal i in
+        let c = x .2 in
+        rw (x .3) (
+          record {
+            start-is = c .start-is;
+            end-is = c .end-is;
+            start-joined = c .start-joined;
+            end-joined = c .end-joined;
+            pair-linked = is-linked (x .0) (x .1) (record { start = c .start-is; end = c .end-is; key = c .linked });
+          },
+          refl,
+          refl,
+        )
 
     candidate-has : (p e : ℕ) → Pair (portals h fresh) lengths source goal p e → (z : choice.Pair) × In z (candidates source goal) × (runOf z ≤ run-of (portals h fresh) lengths goal p e)
-    unfolding routePairs runOf endOf lengths costBy
+    unfolding runOf endOf lengths costBy
     candidate-has p e w =
-        let l = linked-is p e (w .pair-linked) in
-        let end : End = record { portal = e; keys = keysTo g e; lastMoves = movesTo (h .scaled) (midCell h e) goal } in
-        (record { start = p; end = end }, pairs-has linkedPair (start-has source p (w .start-is) (w .start-joined)) (Memᴰ·map (endOf h g goal) (end-has goal e (w .end-is) (w .end-joined))) (link-has p end (l .key)), omega arith)
+        let c : Candidate h g source goal p e =
+        record { start-is = w .start-is; start-joined = w .start-joined; end-is = w .end-is; end-joined = w .end-joined; linked = linked-is p e (w .pair-linked) .key } in
+        (pairOf h g source goal p e, is-pair h g source goal (fits h fresh) c, omega arith)
 
     chosen-route : Chosen (portals h fresh) lengths source goal (Winning (leg-by source) runOf (candidates source goal))
     chosen-route = chosen (portals h fresh) lengths source goal (λ z. z .start) end-of (leg-by source) runOf (candidates source goal) candidate-is candidate-has
-
-    -- the path of a candidate is short
-    path-room : (z : choice.Pair) → In z (candidates source goal) → length (stepsOf h goal true (leastPath h g (z .end .keys) (z .start))) ≤ 1001
-    unfolding routePairs leastPath endOf portalGraph
-    path-room z i = made (pairs-is linkedPair (starts h source) (map (endOf h g goal) (ends h goal)) i)
-      where
-        made : (p : ℕ) × (e : End) × In p (starts h source) × In e (map (endOf h g goal) (ends h goal)) × In z (linkedPair p e) → length (stepsOf h goal true (leastPath h g (z .end .keys) (z .start))) ≤ 1001
-        made w =
-            let e = Memᴰ·of-map (endOf h g goal) (ends h goal) (w .3) in
-            let s = start-is source (w .0) (w .2) in
-            let t = end-is goal (e .0) (e .1) in
-            let k = link-is (w .0) (w .1) (w .4) in
-            let few = few-edges (portal-keyed h (fits h fresh)) (keys-settled h (fits h fresh) (e .0) (node (e .0) (t .0))) (nodeRank h) (w .0) (node (w .0) (s .0)) (rw (← (e .2)) at (k .1)) in
-            rw (k .0, ← (e .2)) (omega (arith, few .0, few .1, fresh .small, steps-few h goal (leastPath h g (keysTo g (e .0)) (w .0)) .0))
 
     -- the route call finds a route of this leg and run
     abbrev pub Gives : ℕ → ℕ → Type 0
@@ -235,11 +200,7 @@ module _ (h : Hall) (fresh : Fresh h) where
           not-inside : (n : ℕ) → ¬ Inside (floorOf (h .measures) (h .scaled)) source goal n
           not-inside n i = true≢false (sym (inside-joined (h .measures) (h .scaled) i .0) ∙ apart)
 
-      -- ROOM FOR 1,001 STEPS: a least path passes each of at most 2,000 portals once
-      pub route-room : (steps : List RouteStep) (leg run : ℕ) → routeOf h source goal ≡ route steps leg run → length steps ≤ 1001
-      unfolding throughPair leastPath
-      route-room steps leg run e = go (winner runOf Option.none (candidates source goal)) refl (sym by-pairs ∙ e)
-        where
-          go : (b : Option choice.Pair) → winner runOf Option.none (candidates source goal) ≡ b → throughPair h g source goal b ≡ route steps leg run → length steps ≤ 1001
-          go Option.none q r = absurd (none-found r)
-          go (some z) q r = rw (← (same-found r .0)) (path-room z (winner-in runOf q))
+    -- and its steps fit into 1,001
+    pub route-room : (steps : List RouteStep) (leg run : ℕ) → routeOf h source goal ≡ route steps leg run → length steps ≤ 1001
+    unfolding stepList
+    route-room steps leg run e = rw e at (few-steps h (fits h fresh) source goal)

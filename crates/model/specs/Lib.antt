@@ -31,9 +31,11 @@ pub mod PortalOrder
 pub mod LeastPathFirst
 pub mod Route
 pub mod RouteChosen
+pub mod RoutePairs
 pub mod Account
 pub mod Store
 pub mod StoreLayout
 pub mod Calls
+pub mod FewSteps
 pub mod Listing
 pub mod Computing

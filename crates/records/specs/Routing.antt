@@ -17,7 +17,8 @@ use Rattle.model.specs.Route.{Found, route, none, routeOf}
 use Rattle.model.specs.Store.{decode}
 use Rattle.model.specs.Calls.{orElse, ifAccepted, checkNumber, stepList, foundNumber, routeNumber, routed, routedSteps, routeAnswer, routeSteps, routeFlat}
 use Rattle.store.specs.Checks.{checked}
-use Rattle.records.specs.FewSteps.{few-steps}
+use Rattle.model.specs.FewSteps.{few-steps}
+use Rattle.graph.specs.EdgeTable.{checked-fits}
 
 module _ (st : List ℕ) (source goal : ℕ) where
   abbrev found : Found
@@ -33,7 +34,7 @@ module _ (st : List ℕ) (source goal : ℕ) where
       test few (inr l) = le-ltb cut (length (stepList found)) (omega arith) ∙ sym (le-ltb room (length (stepList found)) (omega arith))
 
       go : (n : ℕ) → checkNumber st ≡ n → orElse n (foundNumber (decode st) source goal cut found) ≡ orElse n (foundNumber (decode st) source goal room found)
-      go zero e = rw (test (few-steps (checked st e) source goal) (below-or room 1001))
+      go zero e = rw (test (few-steps (decode st) (checked-fits (checked st e)) source goal) (below-or room 1001))
       go (suc n) e = refl
 
   -- where none is refused the steps fit
@@ -46,7 +47,7 @@ module _ (st : List ℕ) (source goal : ℕ) where
           let a = passed _ 22 _ z in
           let b = passed _ 23 _ (a .1) in
           let c = passed _ 24 _ (b .1) in
-          (ltb-false room (length (stepList found)) (c .0), few-steps (checked st e) source goal)
+          (ltb-false room (length (stepList found)) (c .0), few-steps (decode st) (checked-fits (checked st e)) source goal)
       go (suc n) e z = absurd (omega arith)
 
   -- the steps of an answer, which are in front of a flat list

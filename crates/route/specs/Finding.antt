@@ -28,7 +28,8 @@ use Rattle.model.specs.Calls.{ifAccepted, stepList, routed}
 use Rattle.graph.specs.Near.{leg-moves, last-moves, near-portal}
 use Rattle.route.specs.Choosing.{Chosen, legAt, lastAt}
 use Rattle.route.specs.PortalPaths.{PortalPath, least-portal-path}
-use Rattle.route.specs.Stepping.{length-steps, length-flat}
+use Rattle.model.specs.FewSteps.{length-steps}
+use Rattle.route.specs.Stepping.{length-flat}
 
 -- 25 where the list holds fewer steps
 abbrev pub roomNumber : ℕ → Found → ℕ

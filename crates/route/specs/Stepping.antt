@@ -53,11 +53,6 @@ module _ (h : Hall) (goal : ℕ) where
       let last : suc (suc (suc (length rest))) - 1 ≡ suc (suc (suc (length rest) - 1)) = omega arith in
       rw (half, on, last) (ap (λ (s : List RouteStep). stepAt h p ∷ s) (steps-by-place (r ∷ rest) (omega arith)))
 
-  pub length-steps : (path : List ℕ) → 1 ≤ length path → length (stepsOf h goal true path) ≡ length path / 2 + 1
-  length-steps path l =
-      let last : List RouteStep = endStep h goal (getD path (length path - 1) 0) ∷ [] in
-      omega (arith, ap length (steps-by-place path l), length-append (evenSteps h path (length path / 2)) last, length-even h path (length path / 2))
-
 -- ---- the bytes of steps
 flat-append : (a b : List RouteStep) → flatSteps (a ++ b) ≡ flatSteps a ++ flatSteps b
 unfolding flatSteps
