@@ -19,23 +19,14 @@ loop-holds c = search needs
 next-line-requires : tie.Need-next-line-requires Inv-loop μ-loop
 next-line-requires c κs = search needs
 
-slice-reshare-prefix-write-all : tie.Need-slice-reshare-prefix-write-all Inv-loop μ-loop
-slice-reshare-prefix-write-all c = search needs
+slice-reshare-prefix-print : tie.Need-slice-reshare-prefix-print Inv-loop μ-loop
+slice-reshare-prefix-print c = search needs
 
-slice-aggregate-write-all : tie.Need-slice-aggregate-write-all Inv-loop μ-loop
-slice-aggregate-write-all c = search needs
+slice-aggregate-print : tie.Need-slice-aggregate-print Inv-loop μ-loop
+slice-aggregate-print c = search needs
 
-write-all-requires : tie.Need-write-all-requires Inv-loop μ-loop
-write-all-requires c κs = search needs
-
-add-at : tie.Need-add-at Inv-loop μ-loop
-add-at c = search needs
-
-loop-less : tie.Need-loop-less Inv-loop μ-loop
-loop-less c = omega arith
-
-loop-again : tie.Need-loop-again Inv-loop μ-loop
-loop-again c = search needs
+print-requires : tie.Need-print-requires Inv-loop μ-loop
+print-requires c κs = search needs
 
 same-length : tie.Need-same-length Inv-loop μ-loop
 same-length c = search needs
@@ -46,6 +37,24 @@ same-length-2 c = search needs
 returns : tie.Need-returns Inv-loop μ-loop
 returns c = tt
 
+add-at : tie.Need-add-at Inv-loop μ-loop
+add-at c = search needs
+
+loop-less : tie.Need-loop-less Inv-loop μ-loop
+loop-less c = omega arith
+
+loop-again : tie.Need-loop-again Inv-loop μ-loop
+loop-again c = search needs
+
+same-length-3 : tie.Need-same-length-3 Inv-loop μ-loop
+same-length-3 c = search needs
+
+same-length-4 : tie.Need-same-length-4 Inv-loop μ-loop
+same-length-4 c = search needs
+
+returns-2 : tie.Need-returns-2 Inv-loop μ-loop
+returns-2 c = tt
+
 pub print-pairs-spec : {M : Type 1} → statement M
 print-pairs-spec =
     tie.close
@@ -54,12 +63,15 @@ print-pairs-spec =
     μ-loop
     loop-holds
     next-line-requires
-    slice-reshare-prefix-write-all
-    slice-aggregate-write-all
-    write-all-requires
+    slice-reshare-prefix-print
+    slice-aggregate-print
+    print-requires
+    same-length
+    same-length-2
+    returns
     add-at
     loop-less
     loop-again
-    same-length
-    same-length-2
-    returns)
+    same-length-3
+    same-length-4
+    returns-2)
