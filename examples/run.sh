@@ -1,6 +1,7 @@
 #!/usr/bin/env bash
 # Builds libhall.a, and with it the example in C and the one in Rust: both must print expected.txt. Holds the header to
-# C99 and C++11, and runs the tests of the Rust package. What the machine lacks it installs.
+# C99 and C++11, runs the programs in C and C++ under the sanitizers, and runs the tests of the Rust package. What the
+# machine lacks it installs.
 set -euo pipefail
 cd "$(dirname "${BASH_SOURCE[0]}")"
 
@@ -23,13 +24,24 @@ if grep -vxE 'memcpy|memmove|memset' <<<"$names"; then
 fi
 
 warnings=(-Wall -Wextra -Werror -pedantic -Wconversion)
-g++ -std=c++11 "${warnings[@]}" -I "$hall/include" c/header.cpp -L "$hall/lib" -lhall -o "$into/header"
-"$into/header"
-cc -std=c99 "${warnings[@]}" -I "$hall/include" c/route.c -L "$hall/lib" -lhall -o "$into/route"
-"$into/route" | diff expected.txt -
-echo "C: as expected"
+sanitizers=(-fsanitize=address,undefined -fno-sanitize-recover=all)
+c() { cc -std=c99 "${warnings[@]}" -I "$hall/include" "$@" -L "$hall/lib" -lhall; }
+cpp() { g++ -std=c++11 "${warnings[@]}" -I "$hall/include" "$@" -L "$hall/lib" -lhall; }
 
-cargo() { command cargo "$1" --offline --quiet --manifest-path rust/Cargo.toml --target-dir "$into/rust" "${@:2}"; }
-cargo test
-cargo run --example route | diff expected.txt -
+# Each program once as it is, once with the sanitizers on the caller's side.
+for checks in "" "${sanitizers[*]}"; do
+    # shellcheck disable=SC2086
+    cpp $checks c/header.cpp -o "$into/header"
+    cpp $checks -x c++ c/empty.c -x none -o "$into/empty_cpp"
+    c $checks c/empty.c -o "$into/empty"
+    c $checks c/route.c -o "$into/route"
+    for program in header empty_cpp empty; do "$into/$program"; done
+    "$into/route" | diff expected.txt -
+done
+echo "C and C++: as expected"
+
+cargo() { command cargo "$1" --offline --quiet --target-dir "$into/rust" "${@:2}"; }
+package=(--manifest-path rust/Cargo.toml)
+cargo test "${package[@]}"
+cargo run "${package[@]}" --example route | diff expected.txt -
 echo "Rust: as expected"

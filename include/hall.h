@@ -24,10 +24,10 @@
  * WHAT IS LENT
  *
  * A lent list is two arguments: where it begins, and how many bytes it has. A call reads and writes
- * those bytes alone, whatever is in them, and keeps no pointer. The caller sees to three things:
+ * those bytes alone, whatever is in them, and keeps no pointer. A list of length 0 may begin anywhere:
+ * its pointer may be null, as that of an empty std::vector. The caller sees to two things:
  *
  *   - the bytes are there, as many as the length says;
- *   - no pointer is null, not even with length 0;
  *   - what is lent for writing overlaps nothing else that is lent to the same call.
  *
  * NUMBERS

@@ -1,6 +1,7 @@
 // hall.h in C++: its structs lie as the library has them (rust/src/declared.rs holds the same numbers), and its calls
-// link under their C names.
+// link under their C names. An empty std::vector may be lent.
 #include <hall.h>
+#include <vector>
 
 static_assert(sizeof(hall_measures_answer) == 4, "measures");
 static_assert(offsetof(hall_measures_answer, columns) == 1, "measures");
@@ -25,12 +26,13 @@ int main()
     uint8_t list[HALL_STEP_BYTES] = {};
     const hall_measures_answer measures = hall_plan(10, 10, 1, 1);
     const uint8_t file[] = {measures.columns, measures.rows, measures.scale, 0, 0};
+    std::vector<uint8_t> none;
     const bool accepted =
         hall_read_file(file, sizeof file, base, sizeof base).number == 0
         && hall_build(1, 1, 1, base, sizeof base, store, sizeof store) == 0
         && hall_change(store, sizeof store, 50, HALL_BLOCKED) == 0
         && hall_check_store(store, sizeof store) == 0
-        && hall_windows(store, sizeof store, 0, list, 0).number == 0
+        && hall_windows(store, sizeof store, 0, none.data(), none.size()).number == 0
         && hall_route(store, sizeof store, 0, 99, list, sizeof list).run == 18;
     return accepted ? 0 : 1;
 }
