@@ -5,10 +5,10 @@
 set -euo pipefail
 cd "$(dirname "${BASH_SOURCE[0]}")"
 
-if ! { command -v cc && command -v g++; } >/dev/null; then
+if ! { command -v cc && command -v g++ && command -v python3; } >/dev/null; then
     export DEBIAN_FRONTEND=noninteractive
     apt-get update -qq
-    apt-get install -y -qq --no-install-recommends gcc g++ libc6-dev >/dev/null
+    apt-get install -y -qq --no-install-recommends gcc g++ libc6-dev python3 >/dev/null
 fi
 
 bash build.sh
@@ -34,14 +34,18 @@ for checks in "" "${sanitizers[*]}"; do
     cpp $checks c/header.cpp -o "$into/header"
     cpp $checks -x c++ c/empty.c -x none -o "$into/empty_cpp"
     c $checks c/empty.c -o "$into/empty"
+    c $checks c/numbers.c -o "$into/numbers"
     c $checks c/route.c -o "$into/route"
     for program in header empty_cpp empty; do "$into/$program"; done
+    "$into/numbers" >"$into/numbers.txt"
     "$into/route" | diff expected.txt -
 done
+python3 numbers.py <"$into/numbers.txt"
 echo "C and C++: as expected"
 
 cargo() { command cargo "$1" --offline --quiet --target-dir "$into/rust" "${@:2}"; }
 package=(--manifest-path rust/Cargo.toml)
 cargo test "${package[@]}"
 cargo run "${package[@]}" --example route | diff expected.txt -
+cargo run "${package[@]}" --example numbers | diff "$into/numbers.txt" -
 echo "Rust: as expected"

@@ -34,45 +34,7 @@
  *
  * Every call answers a number: 0, or that of the first refusal that applies, in the order that stands
  * at the call. A refusal alters nothing that was lent, and the other values of its answer are 0.
- *
- * plan
- *    1  a value is not finite
- *    2  a size is 0 or less
- *    3  the radius is 0 or less
- *    4  the unit is 0 or less
- *    5  columns or rows are below 1 before they are cut down
- *    6  the radius is a sector's length or more
- *    7  the scale is 10 or more
- *    8  the scale is 0: radius over unit rounds to 0
- *    9  columns or rows are above 10
- * read file
- *   10  the file has under 5 bytes
- * read file, build, store check
- *   11  columns or rows are outside 1 to 10
- *   12  the scale is outside 1 to 9
- * read file
- *   13  the count is above 10,000
- *   14  the file has not 5 + 3 x count bytes
- *   15  a floor number of the file is too large
- *   16  the base list has not 100 x sectors bytes
- * build
- *   17  the base list has not 100 x sectors bytes
- * build, store check
- *   18  the store is too short
- * store check
- *   19  the store's fourth byte is not 0
- *   20  a mark is above 1,023, or is not 0 on a side without neighbour
- * change
- *   21  the floor number is too large
- *   22  a sector marked afresh would have more windows on a side than the
- *       facing side of a sector that is not marked afresh
- * route
- *   23  the source is too large
- *   24  the goal is too large
- *   25  the route has more steps than the list holds
- * windows
- *   26  the sector number is too large
- *   27  the list is too short for the windows
+ * hall_refusal_text, at the end, says what each number means.
  *
  * THREADS AND MEMORY
  *
@@ -90,6 +52,12 @@
 #ifdef __cplusplus
 extern "C" {
 #endif
+
+/* The version of this header: one more whenever a call, an answer, a number, or a form of lent bytes
+ * changes, so that a caller has something to do; docs/CHANGES.md says what. hall_version answers that
+ * of the library: where the two differ, header and library do not belong together. */
+#define HALL_VERSION 1u
+uint32_t hall_version(void);
 
 /* Sizes in bytes, from a hall's columns and rows: a list of base costs (one byte each, by floor
  * number), and a store. Both are constants where columns and rows are. */
@@ -232,6 +200,44 @@ hall_route_answer hall_route(const uint8_t *store, size_t store_length,
  * Refusals: those of the store check, 26, 27. */
 hall_windows_answer hall_windows(const uint8_t *store, size_t store_length, size_t sector,
                                  uint8_t *list, size_t list_length);
+
+/* What a number means, in document 01's words; before the colon the call that refuses, where it is one
+ * alone. */
+static inline const char *hall_refusal_text(uint8_t number)
+{
+    switch (number) {
+    case 0: return "accepted";
+    case 1: return "plan: a value not finite";
+    case 2: return "plan: a size <= 0";
+    case 3: return "plan: radius <= 0";
+    case 4: return "plan: unit <= 0";
+    case 5: return "plan: columns or rows below 1 before the cut";
+    case 6: return "plan: radius >= sector length";
+    case 7: return "plan: scale >= 10";
+    case 8: return "plan: scale 0 (the quotient rounds to 0)";
+    case 9: return "plan: columns or rows above 10";
+    case 10: return "read file: under 5 bytes";
+    case 11: return "columns or rows outside 1 to 10";
+    case 12: return "scale outside 1 to 9";
+    case 13: return "read file: count above 10,000";
+    case 14: return "read file: length not 5 + 3 x count";
+    case 15: return "read file: a floor number too large";
+    case 16: return "read file: list length not 100 x sectors";
+    case 17: return "build: base list length not 100 x sectors";
+    case 18: return "store too short";
+    case 19: return "store check: fourth byte not 0";
+    case 20: return "store check: a mark above 1,023, or not 0 on a side without neighbour";
+    case 21: return "change: floor number too large";
+    case 22: return "change: a sector marked afresh has more windows on a side "
+                    "than the facing side of a sector not marked afresh";
+    case 23: return "route: source too large";
+    case 24: return "route: goal too large";
+    case 25: return "route: more steps than the lent list holds";
+    case 26: return "windows: sector number too large";
+    case 27: return "windows: list too short";
+    default: return "no refusal has this number";
+    }
+}
 
 #ifdef __cplusplus
 }

@@ -28,7 +28,8 @@ int main()
     const uint8_t file[] = {measures.columns, measures.rows, measures.scale, 0, 0};
     std::vector<uint8_t> none;
     const bool accepted =
-        hall_read_file(file, sizeof file, base, sizeof base).number == 0
+        hall_version() == HALL_VERSION
+        && hall_read_file(file, sizeof file, base, sizeof base).number == 0
         && hall_build(1, 1, 1, base, sizeof base, store, sizeof store) == 0
         && hall_change(store, sizeof store, 50, HALL_BLOCKED) == 0
         && hall_check_store(store, sizeof store) == 0

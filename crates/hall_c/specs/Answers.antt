@@ -1,4 +1,5 @@
 -- 01's number and values of each answer, as the structs that the calls for C return.
+use Prim.Native.Nat.{ℕ}
 use lib.Ieee.{Float}
 use Rattle.model.specs.declared.Dimensions.{Dimensions}
 use Rattle.model.specs.declared.Measured.{Measured}
@@ -8,6 +9,10 @@ use Rattle.model.specs.Calls.{measuredNumber, measuredValues, routedNumber, rou
 use Rattle.hall_c.specs.declared.MeasuresAnswer.{MeasuresAnswer}
 use Rattle.hall_c.specs.declared.RouteAnswer.{RouteAnswer}
 use Rattle.hall_c.specs.declared.WindowsAnswer.{WindowsAnswer}
+
+-- HALL_VERSION of include/hall.h
+abbrev pub version : ℕ
+version = 1
 
 abbrev pub dimensions : Float → Float → Float → Float → Dimensions
 dimensions x y unit radius = record { «size_x» = x; «size_y» = y; unit = unit; radius = radius }

@@ -3,7 +3,7 @@ ghost use mathlib.Core.Path.{_≡_};
 ghost use Prim.Native.Nat.{_/_};
 ghost use lib.ListN.{length};
 ghost use Rattle.model.specs.Calls.{planAnswer, readAnswer, readInto, measuresOf, buildNumber, buildInto, checkNumber, changeNumber, changeInto, routeAnswer, routeFlat, windowsAnswer, windowsFlat};
-ghost use Rattle.hall_c.specs.Answers.{dimensions, flatMeasures, flatRoute, flatWindows};
+ghost use Rattle.hall_c.specs.Answers.{version, dimensions, flatMeasures, flatRoute, flatWindows};
 use hall::build::build;
 use hall::change::change;
 use hall::file::read_file;
@@ -92,6 +92,14 @@ fn flat_windows(answer: Listed) -> WindowsAnswer
         Listed::Windows(count) => WindowsAnswer { number: 0, count },
         Listed::Refused(number) => WindowsAnswer { number, count: 0 },
     }
+}
+
+// The version of include/hall.h that these calls are declared in.
+#[no_mangle]
+pub extern "C" fn hall_version() -> u32
+    ensures { λ r. ⌜ r ≡ version ⌝ }
+{
+    1
 }
 
 // A hall's columns, rows and scale from its sizes, unit and radius.

@@ -11,7 +11,7 @@ fn plan(size_x: f32, size_y: f32, unit: f32, radius: f32) {
     };
     match hall::plan(dimensions) {
         Ok(m) => println!("plan {} {} {}", m.columns, m.rows, m.scale),
-        Err(refusal) => println!("plan {refusal}"),
+        Err(Refusal(number)) => println!("plan no {number}"),
     }
 }
 
@@ -27,15 +27,15 @@ fn list_windows(store: &Store, sector: usize) {
     print!("windows {sector}");
     match store.windows(sector, &mut list) {
         Ok(windows) => windows.iter().for_each(|window| print!(" {window}")),
-        Err(refusal) => print!(" {refusal}"),
+        Err(Refusal(number)) => print!(" no {number}"),
     }
     println!();
 }
 
 fn change(store: &mut Store, floor_number: usize, cost: u8) {
     print!("change {floor_number} {cost}");
-    if let Err(refusal) = store.change(floor_number, cost) {
-        print!(" {refusal}");
+    if let Err(Refusal(number)) = store.change(floor_number, cost) {
+        print!(" no {number}");
     }
     println!();
 }
@@ -50,7 +50,7 @@ fn route(store: &Store, source: usize, goal: usize, room: usize) {
             steps.iter().for_each(|step| print!(" {step}"));
         }
         Ok(Routed::NoRoute) => print!("none"),
-        Err(refusal) => print!("{refusal}"),
+        Err(Refusal(number)) => print!("no {number}"),
     }
     println!();
 }

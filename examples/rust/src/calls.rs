@@ -1,7 +1,7 @@
-//! The calls on lent memory. A slice is there for the time of the call, is never null, and one lent for writing overlaps no
-//! other: what the header asks of the caller.
+//! The calls on lent memory, with what they accept apart from what they refuse.
 
-use crate::declared::{self, MeasuresAnswer};
+use crate::bytes::{self, MeasuresAnswer};
+use crate::entries::lent;
 use crate::{Dimensions, Measures, Refusal, Routed, Step, Window};
 
 fn accepted(number: u8) -> Result<(), Refusal> {
@@ -22,43 +22,28 @@ fn measured(answer: MeasuresAnswer) -> Result<Measures, Refusal> {
 
 /// A hall's measures from its dimensions.
 pub fn plan(d: Dimensions) -> Result<Measures, Refusal> {
-    measured(declared::hall_plan(d.size_x, d.size_y, d.unit, d.radius))
+    measured(bytes::plan([d.size_x, d.size_y, d.unit, d.radius]))
 }
 
 /// Fills a list of base costs from a hall file.
 pub fn read_file(file: &[u8], base: &mut [u8]) -> Result<Measures, Refusal> {
-    let (costs, cells) = (base.as_mut_ptr(), base.len());
-    // SAFETY: both are slices, lent with their lengths.
-    measured(unsafe { declared::hall_read_file(file.as_ptr(), file.len(), costs, cells) })
+    measured(bytes::read_file(file, base))
 }
 
 /// Builds a hall in a store.
 pub fn build(measures: Measures, base: &[u8], store: &mut [u8]) -> Result<(), Refusal> {
-    // SAFETY: both are slices, lent with their lengths.
-    accepted(unsafe {
-        declared::hall_build(
-            measures.columns,
-            measures.rows,
-            measures.scale,
-            base.as_ptr(),
-            base.len(),
-            store.as_mut_ptr(),
-            store.len(),
-        )
-    })
+    let measures = [measures.columns, measures.rows, measures.scale];
+    accepted(bytes::build(measures, base, store))
 }
 
 /// Whether change, route and windows take a store.
 pub fn check_store(store: &[u8]) -> Result<(), Refusal> {
-    // SAFETY: it is a slice, lent with its length.
-    accepted(unsafe { declared::hall_check_store(store.as_ptr(), store.len()) })
+    accepted(bytes::check_store(store))
 }
 
 /// Gives a cell a base cost.
 pub fn change(store: &mut [u8], floor_number: usize, cost: u8) -> Result<(), Refusal> {
-    let (lent, size) = (store.as_mut_ptr(), store.len());
-    // SAFETY: it is a slice, lent with its length.
-    accepted(unsafe { declared::hall_change(lent, size, floor_number, cost) })
+    accepted(bytes::change(store, floor_number, cost))
 }
 
 /// Finds the route from one cell to another.
@@ -68,10 +53,7 @@ pub fn route<'a>(
     goal: usize,
     list: &'a mut [Step],
 ) -> Result<Routed<'a>, Refusal> {
-    let (lent, room) = (list.as_mut_ptr().cast(), size_of_val(list));
-    // SAFETY: both are slices, lent with their lengths in bytes, and any bytes are steps.
-    let answer =
-        unsafe { declared::hall_route(store.as_ptr(), store.len(), source, goal, lent, room) };
+    let answer = bytes::route(store, source, goal, lent(list));
     accepted(answer.number)?;
     if answer.steps == 0 {
         return Ok(Routed::NoRoute);
@@ -89,9 +71,7 @@ pub fn windows<'a>(
     sector: usize,
     list: &'a mut [Window],
 ) -> Result<&'a [Window], Refusal> {
-    let (lent, room) = (list.as_mut_ptr().cast(), size_of_val(list));
-    // SAFETY: both are slices, lent with their lengths in bytes, and any bytes are windows.
-    let answer = unsafe { declared::hall_windows(store.as_ptr(), store.len(), sector, lent, room) };
+    let answer = bytes::windows(store, sector, lent(list));
     accepted(answer.number)?;
     Ok(&list[..usize::from(answer.count)])
 }

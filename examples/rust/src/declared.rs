@@ -3,7 +3,9 @@
 
 use std::mem::offset_of;
 
+/// What plan and read file answer; a refusal has no measures.
 #[repr(C)]
+#[derive(Clone, Copy, PartialEq, Eq, Debug)]
 pub struct MeasuresAnswer {
     pub number: u8,
     pub columns: u8,
@@ -16,7 +18,9 @@ const _: () = assert!(offset_of!(MeasuresAnswer, columns) == 1);
 const _: () = assert!(offset_of!(MeasuresAnswer, rows) == 2);
 const _: () = assert!(offset_of!(MeasuresAnswer, scale) == 3);
 
+/// What route answers; a refusal and "none" have 0 steps.
 #[repr(C)]
+#[derive(Clone, Copy, PartialEq, Eq, Debug)]
 pub struct RouteAnswer {
     pub number: u8,
     pub steps: u32,
@@ -29,7 +33,9 @@ const _: () = assert!(offset_of!(RouteAnswer, steps) == 4);
 const _: () = assert!(offset_of!(RouteAnswer, leg) == 8);
 const _: () = assert!(offset_of!(RouteAnswer, run) == 12);
 
+/// What windows answers; a refusal has count 0.
 #[repr(C)]
+#[derive(Clone, Copy, PartialEq, Eq, Debug)]
 pub struct WindowsAnswer {
     pub number: u8,
     pub count: u8,
@@ -38,7 +44,9 @@ pub struct WindowsAnswer {
 const _: () = assert!(size_of::<WindowsAnswer>() == 2);
 const _: () = assert!(offset_of!(WindowsAnswer, count) == 1);
 
+// A lent list is two arguments: where it begins, and how many bytes it has.
 unsafe extern "C" {
+    pub safe fn hall_version() -> u32;
     pub safe fn hall_plan(size_x: f32, size_y: f32, unit: f32, radius: f32) -> MeasuresAnswer;
     pub fn hall_read_file(
         file: *const u8,

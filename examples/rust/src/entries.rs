@@ -1,11 +1,29 @@
-//! Entries of the lists that route and windows fill. All their fields are bytes, so that any bytes are an entry.
+//! Entries of the lists that route and windows fill.
 
 use std::fmt;
+use std::slice;
 
 const SIDES: [char; 4] = ['N', 'E', 'S', 'W'];
 
 /// The side of a step without window.
 pub const NO_WINDOW: u8 = 4;
+
+/// An entry whose fields are all bytes.
+///
+/// # Safety
+///
+/// Any bytes, as many as the type has, are a value of it, and it has no others.
+pub unsafe trait Entry {}
+
+// SAFETY: both are `repr(C)`, and each of their fields is a `u8`.
+unsafe impl Entry for Window {}
+unsafe impl Entry for Step {}
+
+/// A list as the bytes that a call is lent.
+pub fn lent<E: Entry>(list: &mut [E]) -> &mut [u8] {
+    // SAFETY: it is the memory of the list, borrowed as long, and whatever is written there are entries.
+    unsafe { slice::from_raw_parts_mut(list.as_mut_ptr().cast(), size_of_val(list)) }
+}
 
 /// A window of a sector: indices of its first and last cell, and its side, 0 to 3 for N, E, S, W.
 #[repr(C)]

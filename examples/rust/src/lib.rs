@@ -1,12 +1,15 @@
 //! Portal routes over a sectored trolley floor: the calls of document 01 (docs/01-scope.md), as libhall.a has them.
 //!
-//! What each call does, and what each number means, stands in include/hall.h. Here a lent list is a slice, a number other
-//! than 0 is a [`Refusal`], and a [`Store`] owns its bytes. As in C, nothing is allocated but by [`Store::build`].
+//! What each call does stands in include/hall.h. Here a lent list is a slice, a number other than 0 is a [`Refusal`], which
+//! says what it means, and a [`Store`] owns its bytes. As in C, nothing is allocated but by [`Store::build`]. The module
+//! [`bytes`] has the calls as C has them.
 
+pub mod bytes;
 mod calls;
 mod declared;
 mod entries;
 mod store;
+mod texts;
 
 use std::error::Error;
 use std::fmt;
@@ -15,6 +18,8 @@ pub use calls::{build, change, check_store, plan, read_file, route, windows};
 pub use entries::{NO_WINDOW, Step, Window};
 pub use store::Store;
 
+/// The version of include/hall.h that this package declares; [`version`] is that of the library.
+pub const VERSION: u32 = 1;
 /// No route has more steps: a list with this room is never refused.
 pub const MOST_STEPS: usize = 1_001;
 /// No sector has more windows.
@@ -24,13 +29,26 @@ pub const STACK_BYTES: usize = 512 * 1024;
 /// The cost of a blocked cell.
 pub const BLOCKED: u8 = 255;
 
+/// The version of the library: where it is not [`VERSION`], package and library do not belong together.
+pub fn version() -> u32 {
+    declared::hall_version()
+}
+
 /// The number of a refused call, 1 to 27. Nothing that was lent has altered.
 #[derive(Clone, Copy, PartialEq, Eq, Debug)]
 pub struct Refusal(pub u8);
 
+impl Refusal {
+    /// What the number means, in document 01's words.
+    pub fn text(self) -> &'static str {
+        texts::text(self.0)
+    }
+}
+
+/// The number and what it means.
 impl fmt::Display for Refusal {
     fn fmt(&self, out: &mut fmt::Formatter) -> fmt::Result {
-        write!(out, "no {}", self.0)
+        write!(out, "no {}, {}", self.0, self.text())
     }
 }
 

@@ -1,6 +1,8 @@
 //! What a declaration can't say: that the library puts each value of an answer where the declaration reads it, and takes
 //! each argument as it is declared. Values that could be exchanged differ, and each of document 01's numbers is asked for.
 
+use std::error::Error;
+
 use hall::{
     BLOCKED, Dimensions, MOST_STEPS, MOST_WINDOWS, Measures, NO_WINDOW, Refusal, Routed, Step,
     Store, Window,
@@ -40,7 +42,7 @@ fn card(store: &Store, source: usize, goal: usize) -> String {
             format!("{} {leg} {run} {}", steps.len(), steps.join(" "))
         }
         Ok(Routed::NoRoute) => "none".into(),
-        Err(refusal) => refusal.to_string(),
+        Err(Refusal(number)) => format!("no {number}"),
     }
 }
 
@@ -195,4 +197,15 @@ fn windows_have_their_fields() {
     assert_eq!(nine.windows(9, &mut list), Err(Refusal(26)));
     assert_eq!(nine.windows(1 << 32, &mut list), Err(Refusal(26)));
     assert_eq!(nine.windows(4, &mut list[..4]), Err(Refusal(27)));
+}
+
+#[test]
+fn the_library_is_the_declared_one() {
+    assert_eq!(hall::version(), hall::VERSION);
+}
+
+#[test]
+fn refusals_say_what_they_mean() {
+    let refusal: Box<dyn Error> = Box::new(Refusal(27));
+    assert_eq!(refusal.to_string(), "no 27, windows: list too short");
 }
