@@ -3,5 +3,5 @@
 set -euo pipefail
 cd "$(dirname "${BASH_SOURCE[0]}")"
 bash ../oracle/install.sh
-(cd .. && rt staticlib hall_c | tail -n 1)
+bash ../examples/build.sh
 cargo --config ../oracle/.cargo/config.toml run --offline --release --quiet

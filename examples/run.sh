@@ -1,7 +1,7 @@
 #!/usr/bin/env bash
 # Builds libhall.a, and with it the example in C and the one in Rust: both must print expected.txt. Holds the header to
-# C99 and C++11, runs the programs in C and C++ under the sanitizers, and runs the tests of the Rust package. What the
-# machine lacks it installs.
+# C99 and C++11, runs the programs in C and C++ under the sanitizers, and runs the tests of the Rust package, also of a
+# copy of it elsewhere. What the machine lacks it installs.
 set -euo pipefail
 cd "$(dirname "${BASH_SOURCE[0]}")"
 
@@ -48,4 +48,9 @@ package=(--manifest-path rust/Cargo.toml)
 cargo test "${package[@]}"
 cargo run "${package[@]}" --example route | diff expected.txt -
 cargo run "${package[@]}" --example numbers | diff "$into/numbers.txt" -
+# The package needs nothing of this repository but the library.
+copy=$(mktemp -d)
+trap 'rm -rf "$copy"' EXIT
+cp -r rust/. "$copy"
+HALL_LIB=$(realpath "$hall/lib") cargo test --manifest-path "$copy/Cargo.toml"
 echo "Rust: as expected"

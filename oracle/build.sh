@@ -3,7 +3,8 @@
 set -euo pipefail
 cd "$(dirname "${BASH_SOURCE[0]}")"
 bash install.sh
-(cd .. && rt staticlib hall_c | tail -n 1 && rt check hallroute | tail -n 1)
+bash ../examples/build.sh
+(cd .. && rt check hallroute | tail -n 1)
 export CARGO_TARGET_DIR="$PWD/target"
 
 cargo build --offline --release --quiet

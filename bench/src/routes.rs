@@ -8,7 +8,7 @@ use calls::best::{self, Best};
 use calls::{Judge, PortalGraph, Step};
 use cases::draw::{Draw, Use};
 use cases::floor::Floor;
-use proved::RouteAnswer;
+use hall::bytes::{self, RouteAnswer};
 use reference_petgraph::Hall;
 
 use crate::halls::{SEED, combs, drawn, walled};
@@ -95,7 +95,7 @@ impl Asked {
     fn answers(&self, pairs: &[(usize, usize)], times: &mut Vec<Duration>) -> Vec<RouteAnswer> {
         let mut list = [0; 6 * ROOM];
         let mut route = |&(source, goal)| {
-            let (answer, time) = timed(|| proved::route(&self.store, source, goal, &mut list));
+            let (answer, time) = timed(|| bytes::route(&self.store, source, goal, &mut list));
             times.push(time);
             answer
         };

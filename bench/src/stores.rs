@@ -6,6 +6,7 @@ use std::time::Duration;
 use calls::Judge;
 use cases::draw::{Draw, Use};
 use cases::floor::Floor;
+use hall::bytes;
 use reference_petgraph::Hall;
 
 use crate::halls::{SEED, combs, drawn, sevenths};
@@ -41,7 +42,7 @@ pub fn print() {
 /// A hall built by both sides: the library's store and the Rust's hall.
 pub fn built(scale: u8, floor: &Floor) -> (Vec<u8>, Hall) {
     let (mut store, measures) = empty(scale, floor);
-    let number = proved::build(measures, &floor.costs, &mut store);
+    let number = bytes::build(measures, &floor.costs, &mut store);
     assert!(number == 0, "build is {number}");
     (store, Hall::build(measures, &floor.costs))
 }
@@ -58,7 +59,7 @@ fn build(case: &str, scale: u8, floor: &Floor) {
     let (mut times, mut scaling) = (Times::default(), vec![]);
     for _ in 0..BUILDS / RUN {
         times.proved.extend((0..RUN).map(|_| {
-            let (number, time) = timed(|| proved::build(measures, &floor.costs, &mut store));
+            let (number, time) = timed(|| bytes::build(measures, &floor.costs, &mut store));
             assert!(number == 0, "build is {number}");
             time
         }));
@@ -94,7 +95,7 @@ fn accepted(store: &mut [u8], draw: &mut Draw, times: &mut Vec<Duration>) -> Vec
     while run.len() < RUN {
         let cell = draw.below((store.len() - 4) / 208 * 100);
         let cost = if store[4 + cell] == 255 { 1 } else { 255 };
-        let (number, time) = timed(|| proved::change(store, cell, cost));
+        let (number, time) = timed(|| bytes::change(store, cell, cost));
         if number == 0 {
             times.push(time);
             run.push((cell, cost));
@@ -106,7 +107,7 @@ fn accepted(store: &mut [u8], draw: &mut Draw, times: &mut Vec<Duration>) -> Vec
 /// The library alone: the Rust has no store.
 fn check(case: &str, floor: &Floor) {
     let (store, _) = built(1, floor);
-    let check = |_| timed(|| proved::check_store(black_box(&store))).1;
+    let check = |_| timed(|| bytes::check_store(black_box(&store))).1;
     let times = (0..CHANGES).map(check).collect();
     println!("| {case} | {:.1} µs | | | |", median(times));
 }

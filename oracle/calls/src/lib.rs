@@ -21,6 +21,35 @@ pub struct Step {
     pub window: Option<Window>,
 }
 
+impl Window {
+    pub fn from_bytes([first, last, side]: [u8; 3]) -> Window {
+        Window { first, last, side }
+    }
+
+    pub fn bytes(&self) -> [u8; 3] {
+        [self.first, self.last, self.side]
+    }
+}
+
+impl Step {
+    /// No window is 4, 0, 0, and nothing else: any other bytes come back as they were.
+    pub fn from_bytes([column, row, goal, side, first, last]: [u8; 6]) -> Step {
+        let none = [side, first, last] == [4, 0, 0];
+        Step {
+            column,
+            row,
+            goal,
+            window: (!none).then_some(Window { first, last, side }),
+        }
+    }
+
+    pub fn bytes(&self) -> [u8; 6] {
+        let window = self.window.map_or([4, 0, 0], |w| [w.side, w.first, w.last]);
+        let [side, first, last] = window;
+        [self.column, self.row, self.goal, side, first, last]
+    }
+}
+
 /// What plan and read file answer.
 #[derive(Clone, Copy, PartialEq, Eq, Debug, Default)]
 pub struct Measures {

@@ -3,75 +3,79 @@
 use std::io::{self, BufRead, Read, Write};
 
 use calls::{Router, Step, Window};
-use second::lines::{Calls, answer};
+use second::lines::{Call, line, numbers};
 
-/// A router whose lists are bytes.
-struct Flat(&'static dyn Router);
-
-impl Calls for Flat {
-    fn plan(&self, values: [f32; 4]) -> [u8; 4] {
-        let answer = self.0.plan(values);
-        [answer.number, answer.columns, answer.rows, answer.scale]
-    }
-
-    fn read_file(&self, file: &[u8], base: &mut [u8]) -> [u8; 4] {
-        let answer = self.0.read_file(file, base);
-        [answer.number, answer.columns, answer.rows, answer.scale]
-    }
-
-    fn build(&self, measures: [u8; 3], base: &[u8], store: &mut [u8]) -> u8 {
-        self.0.build(measures, base, store)
-    }
-
-    fn change(&self, store: &mut [u8], floor_number: usize, cost: u8) -> u8 {
-        self.0.change(store, floor_number, cost)
-    }
-
-    fn windows(&self, store: &[u8], sector: usize, list: &mut [u8]) -> [u8; 2] {
-        let mut windows: Vec<Window> = list.chunks_exact(3).map(window).collect();
-        let answer = self.0.windows(store, sector, &mut windows);
-        let entries = windows.iter().flat_map(|w| [w.first, w.last, w.side]);
-        list.iter_mut()
-            .zip(entries)
-            .for_each(|(byte, new)| *byte = new);
-        [answer.number, answer.count]
-    }
-
-    fn route(&self, store: &[u8], source: usize, goal: usize, list: &mut [u8]) -> [u32; 4] {
-        let mut steps: Vec<Step> = list.chunks_exact(6).map(step).collect();
-        let answer = self.0.route(store, source, goal, &mut steps);
-        let entries = steps.iter().flat_map(|step| {
-            let [side, first, last] = step.window.map_or([4, 0, 0], |w| [w.side, w.first, w.last]);
-            [step.column, step.row, step.goal, side, first, last]
-        });
-        list.iter_mut()
-            .zip(entries)
-            .for_each(|(byte, new)| *byte = new);
-        [answer.number.into(), answer.steps, answer.leg, answer.run]
+/// The line with a router's answer to a call.
+fn answer(router: &dyn Router, call: Call) -> String {
+    match call {
+        Call::Plan(values) => {
+            let a = router.plan(values);
+            numbers([a.number, a.columns, a.rows, a.scale])
+        }
+        Call::File { file, mut base } => {
+            let a = router.read_file(&file, &mut base);
+            line([a.number, a.columns, a.rows, a.scale], &base)
+        }
+        Call::Build {
+            measures,
+            base,
+            mut store,
+        } => {
+            let number = router.build(measures, &base, &mut store);
+            line([number], &store)
+        }
+        Call::Change {
+            mut store,
+            cell,
+            cost,
+        } => {
+            let number = router.change(&mut store, cell, cost);
+            line([number], &store)
+        }
+        Call::Windows {
+            store,
+            sector,
+            mut list,
+        } => {
+            let call = |windows: &mut [Window]| router.windows(&store, sector, windows);
+            let a = with_entries(&mut list, Window::from_bytes, Window::bytes, call);
+            line([a.number, a.count], &list)
+        }
+        Call::Route {
+            store,
+            source,
+            goal,
+            mut list,
+        } => {
+            let call = |steps: &mut [Step]| router.route(&store, source, goal, steps);
+            let a = with_entries(&mut list, Step::from_bytes, Step::bytes, call);
+            line([a.number.into(), a.steps, a.leg, a.run], &list)
+        }
     }
 }
 
-fn window(entry: &[u8]) -> Window {
-    let [first, last, side] = [entry[0], entry[1], entry[2]];
-    Window { first, last, side }
-}
-
-fn step(entry: &[u8]) -> Step {
-    let [column, row, goal] = [entry[0], entry[1], entry[2]];
-    let listed = window(&[entry[4], entry[5], entry[3]]);
-    Step {
-        column,
-        row,
-        goal,
-        window: Some(listed).filter(|window| window.side != 4),
+/// Lends a list of bytes as its entries, `N` bytes each, and takes back what the call left.
+fn with_entries<E, const N: usize, T>(
+    list: &mut [u8],
+    entry: impl Fn([u8; N]) -> E,
+    bytes: impl Fn(&E) -> [u8; N],
+    call: impl FnOnce(&mut [E]) -> T,
+) -> T {
+    let (places, _) = list.as_chunks_mut();
+    let mut entries: Vec<E> = places.iter().map(|place| entry(*place)).collect();
+    let answer = call(&mut entries);
+    for (place, entry) in places.iter_mut().zip(&entries) {
+        *place = bytes(entry);
     }
+    answer
 }
 
 /// Answers each line of standard input.
-pub fn lines(router: &'static dyn Router) -> io::Result<()> {
+pub fn lines(router: &dyn Router) -> io::Result<()> {
     let mut output = io::stdout().lock();
     for line in io::stdin().lock().lines() {
-        let answer = answer(&Flat(router), &line?).unwrap_or("no call".into());
+        let call = Call::of(&line?);
+        let answer = call.map_or("no call".into(), |call| answer(router, call));
         writeln!(output, "{answer}")?;
         output.flush()?;
     }

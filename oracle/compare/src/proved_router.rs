@@ -29,9 +29,8 @@ impl Router for Proved {
     }
 
     fn windows(&self, store: &[u8], sector: usize, list: &mut [Window]) -> Counted {
-        let flat = |w: &Window| [w.first, w.last, w.side];
         let call = |lent: &mut [u8]| proved::windows(store, sector, lent);
-        let answer = lend_flat(list, flat, window, sector % 3, call);
+        let answer = lend_flat(list, Window::bytes, Window::from_bytes, sector % 3, call);
         Counted {
             number: answer.number,
             count: answer.count,
@@ -41,7 +40,7 @@ impl Router for Proved {
     fn route(&self, store: &[u8], source: usize, goal: usize, list: &mut [Step]) -> Routed {
         let call = |lent: &mut [u8]| proved::route(store, source, goal, lent);
         let spare = source.wrapping_add(goal) % 6;
-        let answer = lend_flat(list, flat_step, step, spare, call);
+        let answer = lend_flat(list, Step::bytes, Step::from_bytes, spare, call);
         Routed {
             number: answer.number,
             steps: answer.steps,
@@ -84,27 +83,6 @@ fn lend_flat<E, const N: usize, T>(
         *place = entry(*bytes);
     }
     answer
-}
-
-fn window([first, last, side]: [u8; 3]) -> Window {
-    Window { first, last, side }
-}
-
-/// Side 4 says that there is no window, and then both cells are 0.
-pub fn flat_step(step: &Step) -> [u8; 6] {
-    let window = step.window.map_or([4, 0, 0], |w| [w.side, w.first, w.last]);
-    let [side, first, last] = window;
-    [step.column, step.row, step.goal, side, first, last]
-}
-
-fn step([column, row, goal, side, first, last]: [u8; 6]) -> Step {
-    let none = [side, first, last] == [4, 0, 0];
-    Step {
-        column,
-        row,
-        goal,
-        window: (!none).then_some(Window { first, last, side }),
-    }
 }
 
 fn measures(answer: proved::MeasuresAnswer) -> Measures {

@@ -4,7 +4,7 @@
 use std::fs;
 use std::path::Path;
 
-use calls::{Judge, Measures};
+use calls::{Judge, Measures, Step};
 use cases::draw::{Draw, Use};
 use cases::floor::Floor;
 use cases::{changes, damage, files, halls, pairs};
@@ -12,7 +12,6 @@ use reference_standin::Hall as Standin;
 
 use crate::options::Options;
 use crate::plans;
-use crate::proved_router::flat_step;
 use crate::refusals;
 use crate::routes;
 
@@ -202,7 +201,7 @@ fn routed(hall: &Standin, cells: usize, pair: (usize, usize)) -> (String, Vec<u8
         Ok(None) => "is none".into(),
         Ok(Some((steps, _))) if steps.len() > ROOM => "is 25".into(),
         Ok(Some((steps, best))) => {
-            list.splice(..6 * steps.len(), steps.iter().flat_map(flat_step));
+            list.splice(..6 * steps.len(), steps.iter().flat_map(Step::bytes));
             format!("gives {} {} {}", steps.len(), best.leg, best.run)
         }
     };

@@ -1,59 +1,85 @@
-//! 01's calls as lines of text, for whoever answers them: a line in is one call with the
-//! bytes lent to it, the line out has the answer and the bytes as the call left them.
+//! 01's calls as lines of text, whoever answers them: a line in is one call with the bytes
+//! lent to it, the line out has the answer and the bytes as the call left them.
 //! conformance/README.md has the form of each line.
 
-/// Whoever answers 01's calls on lent bytes. Answers stand in 01's order, the number first.
-pub trait Calls {
-    fn plan(&self, values: [f32; 4]) -> [u8; 4];
-    fn read_file(&self, file: &[u8], base: &mut [u8]) -> [u8; 4];
-    fn build(&self, measures: [u8; 3], base: &[u8], store: &mut [u8]) -> u8;
-    fn change(&self, store: &mut [u8], floor_number: usize, cost: u8) -> u8;
+/// A call with all that it is lent.
+pub enum Call {
+    Plan([f32; 4]),
+    File {
+        file: Vec<u8>,
+        base: Vec<u8>,
+    },
+    Build {
+        measures: [u8; 3],
+        base: Vec<u8>,
+        store: Vec<u8>,
+    },
+    Change {
+        store: Vec<u8>,
+        cell: usize,
+        cost: u8,
+    },
     /// The list has three bytes a window: first cell, last cell, side.
-    fn windows(&self, store: &[u8], sector: usize, list: &mut [u8]) -> [u8; 2];
+    Windows {
+        store: Vec<u8>,
+        sector: usize,
+        list: Vec<u8>,
+    },
     /// The list has six bytes a step: column, row, goal, side or 4, first cell, last cell.
-    fn route(&self, store: &[u8], source: usize, goal: usize, list: &mut [u8]) -> [u32; 4];
+    Route {
+        store: Vec<u8>,
+        source: usize,
+        goal: usize,
+        list: Vec<u8>,
+    },
 }
 
-/// The line that answers a line, or none if it is no call.
-pub fn answer(calls: &impl Calls, line: &str) -> Option<String> {
-    let words: Vec<&str> = line.split(' ').collect();
-    Some(match words[..] {
-        ["plan", x, y, unit, radius] => {
-            let values = [float(x)?, float(y)?, float(unit)?, float(radius)?];
-            numbers(calls.plan(values))
-        }
-        ["file", file, base] => {
-            let (file, mut base) = (bytes(file)?, bytes(base)?);
-            let answer = calls.read_file(&file, &mut base);
-            format!("{} {}", numbers(answer), hex(&base))
-        }
-        ["build", columns, rows, scale, base, store] => {
-            let measures = [number(columns)?, number(rows)?, number(scale)?];
-            let (base, mut store) = (bytes(base)?, bytes(store)?);
-            let answer = calls.build(measures, &base, &mut store);
-            format!("{answer} {}", hex(&store))
-        }
-        ["change", store, cell, cost] => {
-            let mut store = bytes(store)?;
-            let answer = calls.change(&mut store, number(cell)?, number(cost)?);
-            format!("{answer} {}", hex(&store))
-        }
-        ["windows", store, sector, list] => {
-            let (store, mut list) = (bytes(store)?, bytes(list)?);
-            let answer = calls.windows(&store, number(sector)?, &mut list);
-            format!("{} {}", numbers(answer), hex(&list))
-        }
-        ["route", store, source, goal, list] => {
-            let (store, mut list) = (bytes(store)?, bytes(list)?);
-            let answer = calls.route(&store, number(source)?, number(goal)?, &mut list);
-            format!("{} {}", numbers(answer), hex(&list))
-        }
-        _ => return None,
-    })
+impl Call {
+    /// The call of a line, or none if it is no call.
+    pub fn of(line: &str) -> Option<Call> {
+        let words: Vec<&str> = line.split(' ').collect();
+        Some(match words[..] {
+            ["plan", x, y, unit, radius] => {
+                Call::Plan([float(x)?, float(y)?, float(unit)?, float(radius)?])
+            }
+            ["file", file, base] => Call::File {
+                file: bytes(file)?,
+                base: bytes(base)?,
+            },
+            ["build", columns, rows, scale, base, store] => Call::Build {
+                measures: [number(columns)?, number(rows)?, number(scale)?],
+                base: bytes(base)?,
+                store: bytes(store)?,
+            },
+            ["change", store, cell, cost] => Call::Change {
+                store: bytes(store)?,
+                cell: number(cell)?,
+                cost: number(cost)?,
+            },
+            ["windows", store, sector, list] => Call::Windows {
+                store: bytes(store)?,
+                sector: number(sector)?,
+                list: bytes(list)?,
+            },
+            ["route", store, source, goal, list] => Call::Route {
+                store: bytes(store)?,
+                source: number(source)?,
+                goal: number(goal)?,
+                list: bytes(list)?,
+            },
+            _ => return None,
+        })
+    }
 }
 
-fn numbers<T: ToString, const N: usize>(values: [T; N]) -> String {
+/// An answer's numbers, in 01's order, the number of the refusal first.
+pub fn numbers<T: ToString, const N: usize>(values: [T; N]) -> String {
     values.map(|value| value.to_string()).join(" ")
+}
+
+/// The line of an answer to a call that was lent bytes for writing.
+pub fn line<T: ToString, const N: usize>(values: [T; N], lent: &[u8]) -> String {
+    format!("{} {}", numbers(values), hex(lent))
 }
 
 fn number<T: std::str::FromStr>(text: &str) -> Option<T> {
