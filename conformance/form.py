@@ -1,18 +1,16 @@
-"""Conformance cases: the text of a case, the calls that it makes and the answers that it owes.
+"""The text of conformance cases. README.md tells the forms.
 
-README.md tells the forms. A case is a list of statements; each statement that calls something has an
-answer, a list of lines. The present store of a case follows the owed answers, so each call stands alone.
+A case is a list of statements; each statement that calls something has an answer, a list of lines.
 """
+import pathlib
 import re
+import textwrap
 
-LETTERS = "NESW"
-# What lent bytes hold before a call.
-OLD = 0xA5
-# Lent bytes behind the size of a store: they must stay.
-SPARE = 5
-MOST_STEPS = 1001
+FOLDER = pathlib.Path(__file__).resolve().parent / "cases"
+# The longest line of a case, if its words allow it.
+WIDTH = 120
 # What a hall file and pairs can say; what build leaves in the store shows only in the routes.
-IN_A_FILE = re.compile(r"(hall|blocked|cost) .*|build|built|route \d+ \d+")
+IN_A_FILE = re.compile(r"(hall|blocked|cost|aisle) .*|build|built|route \d+ \d+")
 
 
 class Case:
@@ -29,20 +27,43 @@ class Case:
         return "input" in words or "route" in words and all(IN_A_FILE.fullmatch(line) for line, _ in self.statements)
 
     def by_calls(self):
-        return not any(line.startswith("input") for line, _ in self.statements)
+        return self.group != "program"
 
     def text(self):
         lines = [f"case {self.name}"]
         for line, answer in self.statements:
-            lines.append(line)
-            lines += [f"= {part}" for part in answer]
+            lines += wrapped(line)
+            lines += [text for part in answer for text in wrapped(f"= {part}")]
         return "\n".join(lines) + "\n"
+
+
+def wrapped(line):
+    """A line, or what does not fit into it on further ones that begin with a plus."""
+    return textwrap.wrap(line, WIDTH, subsequent_indent="+ ", break_long_words=False, break_on_hyphens=False)
+
+
+def unwrapped(lines):
+    whole = []
+    for line in lines:
+        if line.startswith("+ "):
+            whole[-1] += line[1:]
+        else:
+            whole.append(line)
+    return whole
+
+
+def groups():
+    return sorted(path.stem for path in FOLDER.glob("*.txt"))
+
+
+def all_cases(group=None):
+    return [case for name in groups() if group in (None, name) for case in read(FOLDER / f"{name}.txt")]
 
 
 def read(path):
     """The cases of a file."""
     cases, rule, against = [], "", ""
-    for line in path.read_text(encoding="utf-8").splitlines():
+    for line in unwrapped(path.read_text(encoding="utf-8").splitlines()):
         word, _, rest = line.partition(" ")
         if not line or word == "#":
             continue
@@ -93,288 +114,3 @@ def ranges(found):
         else:
             words.append([number, number])
     return " ".join(str(a) if a == b else f"{a}-{b}" for a, b in words)
-
-
-def to_hex(data):
-    return bytes(data).hex() or "-"
-
-
-def from_hex(text):
-    return bytearray() if text == "-" else bytearray.fromhex(text)
-
-
-def with_zeros(words):
-    """Bytes in hex, and behind them some zeros."""
-    data = from_hex(words[0])
-    if words[1:2] == ["zeros"]:
-        data += bytes(int(words[2]))
-    return data
-
-
-class Floor:
-    """Where things stand in a store."""
-
-    def __init__(self, columns, rows):
-        self.sectors = columns * rows
-        self.cells = 100 * self.sectors
-        self.size = 4 + 208 * self.sectors
-
-    def mark_at(self, sector, side):
-        return 4 + 2 * self.cells + 8 * sector + 2 * side
-
-    def mark(self, store, sector, side):
-        at = self.mark_at(sector, side)
-        return int.from_bytes(store[at:at + 2], "little")
-
-
-class State:
-    """Measures, base costs and store that the statements of a case have made."""
-
-    def __init__(self):
-        self.measures, self.base, self.store = (1, 1, 1), bytearray(), None
-
-    def floor(self):
-        return Floor(self.measures[0], self.measures[1])
-
-    def hall(self, words):
-        self.measures = tuple(int(word) for word in words)
-        self.base = bytearray([1]) * self.floor().cells
-
-    def set_costs(self, cost, words):
-        for number in numbers(words):
-            self.base[number] = cost
-
-    def blank_store(self):
-        return bytearray([OLD]) * (self.floor().size + SPARE)
-
-    def lend(self, words):
-        """Alters the store between two calls."""
-        floor, what = self.floor(), words[0]
-        if what == "length":
-            length = int(words[1])
-            self.store = (self.store + bytearray([OLD]) * length)[:length]
-            return
-        for word in words[1:]:
-            place, _, value = word.partition(":")
-            if what == "mark":
-                at = floor.mark_at(int(place[:-1]), LETTERS.index(place[-1]))
-                self.store[at:at + 2] = int(value, 16).to_bytes(2, "little")
-            else:
-                start = {"base": 4, "scaled": 4 + floor.cells, "byte": 0}[what]
-                self.store[start + int(place)] = int(value)
-
-
-def prepare(state, line):
-    """Does what a statement without answer says; false if it has an answer."""
-    word, *words = line.split()
-    if word == "hall":
-        state.hall(words)
-    elif word == "blocked":
-        state.set_costs(255, words)
-    elif word == "cost":
-        state.set_costs(int(words[0]), words[1:])
-    elif word == "lend":
-        state.lend(words)
-    else:
-        return False
-    return True
-
-
-def call(state, line):
-    """The line of the protocol that makes a call."""
-    word, *words = line.split()
-    if word == "plan":
-        return " ".join([word, *words[:4]])
-    if word == "file":
-        length = int(words[words.index("list") + 1])
-        return f"file {to_hex(with_zeros(words))} {to_hex([OLD] * length)}"
-    if word in ("build", "built"):
-        state = lent_to_build(state, words)
-        return f"build {' '.join(map(str, state.measures))} {to_hex(state.base)} {to_hex(state.store)}"
-    if word == "change":
-        return f"change {to_hex(state.store)} {words[0]} {words[1]}"
-    if word == "windows":
-        return f"windows {to_hex(state.store)} {words[0]} {to_hex([OLD] * 3 * int(words[2]))}"
-    room = int(words[3]) if len(words) > 2 else MOST_STEPS
-    return f"route {to_hex(state.store)} {words[0]} {words[1]} {to_hex([OLD] * 6 * room)}"
-
-
-def told(state, line, answer):
-    """What a router answered, as the lines of an answer."""
-    words = answer.split()
-    try:
-        return TELL[line.split()[0]](state, line.split(), words)
-    except (IndexError, ValueError):
-        return [f"no answer of this form: {answer[:80]}"]
-
-
-def tell_plan(_state, _line, words):
-    return [" ".join(words)]
-
-
-def tell_file(_state, line, words):
-    length = int(line[line.index("list") + 1])
-    lent = from_hex(words[4])
-    lines = [" ".join(words[:4])]
-    if lent == bytes([OLD]) * length:
-        return lines if words[0] != "0" or not length else lines + ["the list stays as it was"]
-    if words[0] != "0":
-        return lines + ["the list is altered"]
-    costs = [f"{number}:{cost}" for number, cost in enumerate(lent) if cost != 1]
-    return lines + ([f"costs {' '.join(costs)}"] if costs else [])
-
-
-def stray_bytes(given, owed):
-    """Bytes that are not what the rest of an answer says."""
-    if len(given) != len(owed):
-        return [f"a store of {len(given)} bytes"]
-    stray = [f"{at}:{byte}" for at, byte in enumerate(given) if byte != owed[at]]
-    return [f"bytes {' '.join(stray)}"] if stray else []
-
-
-def lent_to_build(state, words):
-    """Measures, base costs and store that build is given: those of the case, or `C R S base LENGTH store LENGTH`."""
-    lent = State()
-    if words:
-        lent.measures = tuple(int(word) for word in words[:3])
-        lent.base, lent.store = bytearray([1]) * int(words[4]), bytearray([OLD]) * int(words[6])
-    else:
-        lent.measures, lent.base, lent.store = state.measures, state.base, state.blank_store()
-    return lent
-
-
-def tell_build(state, line, words):
-    given, lent = from_hex(words[1]), lent_to_build(state, line[1:])
-    floor = lent.floor()
-    if words[0] != "0" or len(given) < floor.size:
-        return [words[0]] + stray_bytes(given, lent.store)
-    scaled = given[4 + floor.cells:4 + 2 * floor.cells]
-    marks = [[f"{floor.mark(given, s, side):x}" for side in range(4)] for s in range(floor.sectors)]
-    blocked = [number for number in range(floor.cells) if scaled[number] == 255 != lent.base[number]]
-    lines = ["0"]
-    if blocked:
-        lines.append(f"scaled {ranges(blocked)}")
-    lines.append(f"marks {' '.join('/'.join(sector) for sector in marks)}")
-    return lines + stray_bytes(given, built_store(lent, lines))
-
-
-def built_store(lent, lines):
-    """The store that an answer to build tells of."""
-    floor, store = lent.floor(), bytearray(lent.store)
-    store[0:4] = bytes([*lent.measures, 0])
-    scaled = bytearray(lent.base)
-    for line in lines[1:]:
-        word, *words = line.split()
-        if word == "scaled":
-            for number in numbers(words):
-                scaled[number] = 255
-        elif word == "marks":
-            for sector, marks in enumerate(words):
-                for side, mark in enumerate(marks.split("/")):
-                    at = floor.mark_at(sector, side)
-                    store[at:at + 2] = int(mark, 16).to_bytes(2, "little")
-    store[4:4 + 2 * floor.cells] = lent.base + scaled
-    return store
-
-
-def tell_change(state, _line, words):
-    given, floor = from_hex(words[1]), state.floor()
-    if len(given) != len(state.store):
-        return [words[0], f"a store of {len(given)} bytes"]
-    lines = [words[0]]
-    parts = {"base": (4, floor.cells), "scaled": (4 + floor.cells, floor.cells)}
-    owed = bytearray(state.store)
-    for part, (start, length) in parts.items():
-        altered = [n for n in range(length) if start + n < len(given) and given[start + n] != owed[start + n]]
-        if altered:
-            lines.append(f"{part} " + " ".join(f"{n}:{given[start + n]}" for n in altered))
-    sides = [(s, side) for s in range(floor.sectors) for side in range(4)]
-    marked = [(s, side) for s, side in sides if floor.mark(given, s, side) != floor.mark(owed, s, side)]
-    if marked:
-        lines.append("mark " + " ".join(f"{s}{LETTERS[side]}:{floor.mark(given, s, side):x}" for s, side in marked))
-    return lines + stray_bytes(given, changed_store(state, lines))
-
-
-def changed_store(state, lines):
-    """The store that an answer to change tells of."""
-    after = State()
-    after.measures, after.store = state.measures, bytearray(state.store)
-    for line in lines[1:]:
-        if line.split()[0] in ("base", "scaled", "mark"):
-            after.lend(line.split())
-    return after.store
-
-
-def tell_windows(_state, line, words):
-    lent = from_hex(words[2])
-    entries = [lent[at:at + 3] for at in range(0, len(lent), 3)]
-    count = int(words[1])
-    if len(entries) != int(line[3]) or any(entry != bytes([OLD] * 3) for entry in entries[count:]):
-        return [" ".join(words[:2]), "the list is altered behind the windows"]
-    listed = [f"{LETTERS[side]}{first}-{last}" for first, last, side in entries[:count]]
-    return [" ".join([*words[:2], *listed])]
-
-
-def step_text(entry):
-    column, row, goal, side, first, last = entry
-    window = "-" if side == 4 else f"{LETTERS[side]}{first}-{last}"
-    return f"{column},{row}:{goal}{window}"
-
-
-def tell_route(_state, line, words):
-    number, steps, leg, run = (int(word) for word in words[:4])
-    lent = from_hex(words[4])
-    entries = [lent[at:at + 6] for at in range(0, len(lent), 6)]
-    room = int(line[4]) if len(line) > 3 else MOST_STEPS
-    stray = []
-    if len(entries) != room or any(entry != bytes([OLD] * 6) for entry in entries[steps:]):
-        stray = ["the list is altered behind the steps"]
-    if number or not steps:
-        stray += [f"with {steps} {leg} {run}"] if (steps, leg, run) != (0, 0, 0) else []
-        return [f"no {number}" if number else "none"] + stray
-    return [" ".join([str(steps), str(leg), str(run), *map(step_text, entries[:steps])])] + stray
-
-
-TELL = {
-    "plan": tell_plan, "file": tell_file, "build": tell_build, "built": tell_build, "change": tell_change,
-    "windows": tell_windows, "route": tell_route,
-}
-
-
-def follow(state, line, answer):
-    """Takes over what an answer says about the store."""
-    word = line.split()[0]
-    if line in ("build", "built") and answer[0] == "0":
-        state.store = built_store(lent_to_build(state, []), answer)
-    elif word == "change":
-        state.store = changed_store(state, answer)
-
-
-def hall_file(state):
-    """The hall file of the present measures and base costs."""
-    named = [number for number, cost in enumerate(state.base) if cost != 1]
-    file = bytearray([*state.measures]) + len(named).to_bytes(2, "little")
-    for number in named:
-        file += number.to_bytes(2, "little")
-    return file + bytes(state.base[number] for number in named)
-
-
-def program_input(case):
-    """What a program like hallroute is given, and the text that it owes."""
-    state, data, owed = State(), None, []
-    for line, answer in case.statements:
-        word, *words = line.split()
-        if word == "input":
-            data = with_zeros(words)
-            owed += [text for part in answer for text in repeated(part)]
-        elif not prepare(state, line) and word == "route":
-            data = hall_file(state) if data is None else data
-            data += b"".join(int(word).to_bytes(2, "little") for word in words[:2])
-            owed += [f"{words[0]} {words[1]} {part}" for part in answer]
-    return bytes(data), "".join(f"{line}\n" for line in owed)
-
-
-def repeated(part):
-    """A line, or `N times LINE`."""
-    many = re.match(r"(\d+) times (.*)", part)
-    return [many[2]] * int(many[1]) if many else [part]

@@ -1,24 +1,37 @@
 #!/usr/bin/env python3
 """Tries run.py with programs that do not start, crash, hang, and answer wrong or right; holds the cases to README.md's
 counts, and to hallroute's telling every wrong reading of scaling."""
+import contextlib
+import io
 import os
 import pathlib
 import subprocess
 import sys
 import unittest
 
+import asking
+import calls
 import form
+import program
+import report
+import router
 import run
+import show
 
 FOLDER = pathlib.Path(__file__).resolve().parent
 # Answers each input of hallroute with the text that is owed for it.
 RIGHT = f"""
 import sys
 sys.path.insert(0, {str(FOLDER)!r})
-import form, run
-owed = dict(form.program_input(case) for case in run.all_cases() if case.by_hallroute())
-print(owed[sys.stdin.buffer.read()], end="")
+import form, program
+owed = dict(program.program_input(case) for case in form.all_cases("refusals") if case.by_hallroute())
+text = owed[sys.stdin.buffer.read()]
 """
+# A case with one call, whose owed line is that of the protocol.
+PLAN = form.all_cases("plans")[0]
+PLANNED = PLAN.statements[0][1][0]
+PRINT = "print(text, end='')\n"
+PRINT_FOR_WINDOWS = "sys.stdout.reconfigure(newline='\\r\\n')\n" + PRINT
 
 
 def held(*words, encoding="utf-8"):
@@ -28,7 +41,7 @@ def held(*words, encoding="utf-8"):
     return ended.returncode, ended.stdout + ended.stderr
 
 
-def program(text):
+def python(text):
     return [sys.executable, "-c", text]
 
 
@@ -36,20 +49,27 @@ def routes(cases):
     return sum(line.startswith("route") for case in cases for line, _ in case.statements)
 
 
+def a_case(*statements):
+    case = form.Case("trial", "trial-01")
+    case.statements = [(line, []) for line in statements]
+    return case
+
+
 class Programs(unittest.TestCase):
     def test_right_answers_pass(self):
-        status, text = held("hallroute", "--group", "refusals", *program(RIGHT))
+        status, text = held("hallroute", "--group", "refusals", *python(RIGHT + PRINT))
         self.assertEqual(status, 0)
         self.assertTrue(text.endswith(" cases, 0 fail\n"), text)
+        self.assertIsNone(asking.fails_calls(PLAN, python(f"print({PLANNED!r})")))
 
     def test_a_plain_output_is_enough(self):
-        status, text = held("calls", "--group", "files", *program("print('no')"), encoding="ascii")
+        status, text = held("calls", "--group", "files", *python("print('no')"), encoding="ascii")
         self.assertEqual(status, 1)
         self.assertIn("14 length not 5 + 3 ? count", text)
 
     def test_a_wrong_answer_names_its_rule(self):
-        status, text = held("hallroute", "--group", "limits", *program("print('0 9999 none')"))
-        case = next(case for case in run.all_cases("limits") if case.by_hallroute())
+        status, text = held("hallroute", "--group", "limits", *python("print('0 9999 none')"))
+        case = next(case for case in form.all_cases("limits") if case.by_hallroute())
         self.assertEqual(status, 1)
         self.assertIn(f"{case.name} fails. The rule: {case.rule}\n", text)
         self.assertIn("given  0 9999 none\n", text)
@@ -61,34 +81,129 @@ class Programs(unittest.TestCase):
             self.assertEqual((status, text), (1, "./no-such-program word cannot be started: No such file or directory\n"))
 
     def test_a_crash(self):
-        crash = program("import sys; print('first', file=sys.stderr); sys.exit('the last line')")
+        crash = python("import sys; print('first', file=sys.stderr); sys.exit('the last line')")
         for interface in ("hallroute", "calls"):
             status, text = held(interface, "--group", "limits", *crash)
             self.assertEqual(status, 1)
             self.assertIn("given  the program ended with status 1: the last line\n", text)
 
     def test_a_crash_where_no_line_is_owed(self):
-        silent = next(case for case in run.all_cases("program") if not form.program_input(case)[1])
-        self.assertIsNone(run.fails_hallroute(silent, program("")))
-        self.assertIsNotNone(run.fails_hallroute(silent, program("raise SystemExit(3)")))
+        silent = next(case for case in form.all_cases("program") if not program.program_input(case)[1])
+        self.assertIsNone(asking.fails_hallroute(silent, python("")))
+        self.assertIsNotNone(asking.fails_hallroute(silent, python("raise SystemExit(3)")))
 
     def test_a_crash_after_an_answer(self):
-        case = next(case for case in run.all_cases("windows") if len(run.calls_of(case)) > 1)
-        (_, _, state, owed), (second, *_) = run.calls_of(case)[:2]
-        store = form.built_store(form.lent_to_build(state, []), owed)
-        asked, _, given = run.fails_calls(case, program(f"print('0 {store.hex()}'); raise SystemExit(3)"))
-        self.assertEqual((asked, given), (second, ["the program ended with status 3"]))
+        case = next(case for case in form.all_cases("windows") if len(asking.calls_of(case)) > 1)
+        (_, _, state, owed), (second, *_) = asking.calls_of(case)[:2]
+        store = calls.built_store(calls.lent_to_build(state, []), owed)
+        failure = asking.fails_calls(case, python(f"print('0 {store.hex()}'); raise SystemExit(3)"))
+        self.assertEqual((failure.asked, failure.given), (second, ["the program ended with status 3"]))
 
-    def test_a_program_that_hangs(self):
-        seconds, run.SECONDS = run.SECONDS, 0.1
-        self.addCleanup(setattr, run, "SECONDS", seconds)
-        self.assertEqual(run.run(program("import time; time.sleep(9)"), b""), ("", "no answer in 0.1 seconds"))
+    def test_a_bad_status_after_every_answer(self):
+        given = "the answers, but the program ended with status 3"
+        status, text = held("hallroute", "--group", "refusals", *python(RIGHT + PRINT + "sys.exit(3)"))
+        self.assertEqual(status, 1)
+        self.assertIn(f"given  {given}\n", text)
+        self.assertEqual(asking.fails_calls(PLAN, python(f"print({PLANNED!r}); raise SystemExit(3)")).given, [given])
+
+
+class Hanging(unittest.TestCase):
+    def setUp(self):
+        self.addCleanup(setattr, router, "SECONDS", router.SECONDS)
+
+    def test_what_was_printed_is_kept(self):
+        router.SECONDS = 1
+        ended = router.run(python("import time; print('so far', flush=True); time.sleep(60)"), b"")
+        self.assertEqual(ended, ("so far\n", "the program did not end within 1 seconds", True))
+
+    def test_what_it_started_is_ended_too(self):
+        router.SECONDS = 1
+        late = "import subprocess, sys; subprocess.run([sys.executable, '-c', 'import time; time.sleep(4); print(5)'])"
+        self.assertEqual(router.run(python(late), b"").printed, "")
+
+    def test_the_first_few_are_enough(self):
+        router.SECONDS = 0.1
+        with contextlib.redirect_stdout(io.StringIO()) as text:
+            status = run.hold("calls", python("import time; time.sleep(60)"), None)
+        last = text.getvalue().splitlines()[-1]
+        most = run.MOST_HUNG + (os.cpu_count() or 1) - 1
+        self.assertEqual(status, 1)
+        self.assertRegex(last, r"^calls: \d+ cases, \d+ fail; stopped after \d+, because \d+ times the program did not end within 0.1 seconds$")
+        self.assertLessEqual(int(last.split("stopped after ")[1].split(",")[0]), most)
+
+
+class Lines(unittest.TestCase):
+    def test_a_carriage_return_is_told(self):
+        status, text = held("hallroute", "--group", "refusals", *python(RIGHT + PRINT_FOR_WINDOWS))
+        self.assertEqual(status, 1)
+        self.assertIn("\\r, and the line ends in a carriage return\n", text)
+
+    def test_calls_may_end_lines_in_a_carriage_return(self):
+        self.assertIsNone(asking.fails_calls(PLAN, python(f"print({PLANNED!r}, end='\\r\\n')")))
+
+    def test_what_cannot_be_seen_is_told(self):
+        self.assertEqual(asking.shown("0 5 none\n"), "0 5 none")
+        self.assertEqual(asking.shown("0 5 none \n"), "0 5 none , and the line ends in a blank")
+        self.assertEqual(asking.shown("0 5 none"), "0 5 none, and the line has no line feed")
+        self.assertEqual(asking.shown("0\t5 \x1b[31mnone\n"), "0\\t5 \\x1b[31mnone")
+
+    def test_a_line_too_few_or_too_many(self):
+        case = next(case for case in form.all_cases("limits") if case.by_hallroute())
+        owed = program.program_input(case)[1]
+        fewer = asking.fails_hallroute(case, python(f"print({owed.splitlines()[0]!r})"))
+        more = asking.fails_hallroute(case, python(f"print({owed + 'more'!r})"))
+        self.assertEqual((fewer.owed, fewer.given), (owed.splitlines()[1:2], ["no further line"]))
+        self.assertEqual((more.owed, more.given), (["no further line"], ["more"]))
+
+    def test_long_lines_are_shown_where_they_differ(self):
+        for length in (0, 200, 5000):
+            owed, given = report.differing("7" * length + "5" + "6" * 900, "7" * length + "9" + "6" * 900)
+            self.assertIn("75" if length else "5", owed)
+            self.assertIn("79" if length else "9", given)
+            self.assertLess(max(len(owed), len(given)), report.SHOWN + 3)
+
+
+class Show(unittest.TestCase):
+    def test_no_line_is_long(self):
+        for case in ("limits-10", "scaling-01", "program-01"):
+            status, text = held("show", case)
+            self.assertEqual(status, 0)
+            self.assertLessEqual(max(map(len, text.splitlines())), max(show.WIDTH, form.WIDTH), case)
+
+    def test_equal_bytes_are_counted(self):
+        for line, told in (("0a" * 8, "8*0a"), ("0a" * 7, "0a" * 7), (f"file 03{'00' * 9}ff0102 -", "file 03 9*00 ff0102 -")):
+            self.assertEqual(show.counted(line), told)
+
+    def test_the_floor_is_drawn(self):
+        case = a_case("hall 1 2 3", "blocked 1 110-119", "cost 0 2", "cost 7 3", "cost 40 4", "built", "route 0 199", "route 5 5")
+        rows = ["S#07~....."] + [".........."] * 10 + ["##########"] + [".........."] * 7 + [".........G"]
+        border = "+----------+"
+        lines = ["scale 3", "~ = 40", border, *(f"|{row}|" for row in rows[:10]), border, *(f"|{row}|" for row in rows[10:]), border]
+        self.assertEqual(show.drawing(case), [*lines, ""])
+
+    def test_ends_that_are_no_two_open_cells_are_not_drawn(self):
+        for route in ("route 5 5", "route 1 5", "route 5 100"):
+            lines = show.drawing(a_case("hall 1 1 1", "blocked 1", "built", route))
+            self.assertFalse(set("SG") & set("".join(lines)), route)
+
+    def test_no_floor_no_drawing(self):
+        self.assertEqual(show.drawing(a_case("input 0201010000")), [])
+
+    def test_send_writes_what_is_given(self):
+        case = next(case for case in form.all_cases("limits") if case.by_hallroute())
+        for way, given in (("hallroute", program.program_input(case)[0]), ("calls", "\n".join(line for _, line, _, _ in asking.calls_of(case)).encode() + b"\n")):
+            sent = subprocess.run([sys.executable, FOLDER / "run.py", "send", way, case.name], capture_output=True)
+            self.assertEqual((sent.returncode, sent.stdout), (0, given))
+
+    def test_what_cannot_be_sent(self):
+        self.assertEqual(held("send", "hallroute", "plans-01"), (1, "plans-01 cannot be asked by hallroute\n"))
+        self.assertEqual(held("send", "calls", "plans-999"), (1, "no case plans-999\n"))
 
 
 class Groups(unittest.TestCase):
     def test_an_unknown_group(self):
         status, text = held("hallroute", "--group", "nosuch", "true")
-        self.assertEqual((status, text), (2, f"no group nosuch; the groups are {', '.join(run.groups())}\n"))
+        self.assertEqual((status, text), (2, f"no group nosuch; the groups are {', '.join(form.groups())}\n"))
 
     def test_no_name_of_a_group(self):
         self.assertEqual(held("hallroute", "--group"), (2, run.__doc__ + "\n"))
@@ -100,14 +215,14 @@ class Groups(unittest.TestCase):
 
 class Scaling(unittest.TestCase):
     def test_each_wrong_reading_can_be_told_by_hallroute(self):
-        cases = [case for case in run.all_cases("scaling") if case.against]
+        cases = [case for case in form.all_cases("scaling") if case.against]
         by_hallroute = {case.against for case in cases if case.by_hallroute()}
         self.assertEqual(by_hallroute, {case.against for case in cases})
 
 
 class Readme(unittest.TestCase):
     def test_the_counts(self):
-        cases = run.all_cases()
+        cases = form.all_cases()
         by_hallroute = [case for case in cases if case.by_hallroute()]
         text = (FOLDER / "README.md").read_text(encoding="utf-8")
         self.assertIn(f"{len(by_hallroute)} of the {len(cases)} cases, with {routes(by_hallroute)} of the {routes(cases)} routes", text)

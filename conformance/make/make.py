@@ -14,10 +14,13 @@ import subprocess
 import sys
 
 sys.path.insert(0, str(pathlib.Path(__file__).resolve().parent.parent))
+import asking
+import calls
 import form
 import drawn
 import listed
-import run
+import router
+import store
 import wrong
 
 COMPARE = wrong.TOP / "oracle" / "target" / "release" / "compare"
@@ -38,22 +41,22 @@ class Router:
 
 def answered(group, name, statements, rust):
     """A case with the Rust's answers, and the lines that it asks with the answers to them."""
-    case, state, asked = form.Case(group, name), form.State(), []
+    case, state, asked = form.Case(group, name), store.State(), []
     for line in statements:
         answer = []
         if line.startswith("input"):
             answer = program_answer(line)
-        elif not form.prepare(state, line):
-            asked.append((form.call(state, line), rust.ask(form.call(state, line))))
-            answer = form.told(state, line, asked[-1][1])
-            form.follow(state, line, answer)
+        elif not store.prepare(state, line):
+            asked.append((calls.call(state, line), rust.ask(calls.call(state, line))))
+            answer = calls.told(state, line, asked[-1][1])
+            calls.follow(state, line, answer)
         case.statements.append((line, answer))
     return case, asked
 
 
 def program_answer(line):
     """What the Rust prints for an input; equal lines in a row are counted."""
-    data = form.with_zeros(line.split()[1:])
+    data = calls.with_zeros(line.split()[1:])
     printed = subprocess.run([COMPARE, "hallroute", "--router", "rust"], input=data, stdout=subprocess.PIPE, check=True).stdout
     lines = []
     for text in printed.decode().splitlines():
@@ -69,8 +72,8 @@ def answers_of(program, lines):
     answers = []
     while len(answers) < len(lines):
         rest = lines[len(answers):]
-        printed, _ = run.run([program], "".join(line + "\n" for line in rest).encode())
-        answers += printed.splitlines()[:len(rest)]
+        ended = router.run([program], "".join(line + "\n" for line in rest).encode())
+        answers += ended.printed.splitlines()[:len(rest)]
         if len(answers) < len(lines):
             answers.append("")
     return answers
@@ -86,7 +89,7 @@ def telling(edit, pool):
         given = answers[at:at + len(pairs)]
         at += len(pairs)
         # A store that is only told is not asked for.
-        words = [line.split()[0] for line, _ in case.statements if line.split()[0] in form.TELL]
+        words = [line.split()[0] for line, _ in case.statements if line.split()[0] in calls.TELL]
         if any(a != owed for (_, owed), a, word in zip(pairs, given, words) if word != "built"):
             found.append(case)
     return sorted(found, key=lambda case: len(case.text()))
@@ -97,7 +100,7 @@ def telling_by_route(edit, pool):
     # A call of route is lent the store that is owed: of the calls only the first, build, can tell a wrong scaling.
     built = [(case, pairs[:1]) for case, pairs in pool]
     program = wrong.build(edit) / "hallroute"
-    return (case for case in telling(edit, built) if run.fails_hallroute(case, [program]))
+    return (case for case in telling(edit, built) if asking.fails_hallroute(case, [program]))
 
 
 def drawn_cases(group, edits, rust):
@@ -135,8 +138,8 @@ def listed_cases(group, rust):
 def caught(edit, cases):
     """How many cases a wrong reading fails."""
     folder = wrong.build(edit)
-    by_calls = [run.fails_calls(case, [folder / "hallcalls"]) for case in cases if case.by_calls()]
-    by_program = [run.fails_hallroute(case, [folder / "hallroute"]) for case in cases if not case.by_calls()]
+    by_calls = [asking.fails_calls(case, [folder / "hallcalls"]) for case in cases if case.by_calls()]
+    by_program = [asking.fails_hallroute(case, [folder / "hallroute"]) for case in cases if not case.by_calls()]
     return sum(failure is not None for failure in by_calls + by_program)
 
 
@@ -150,7 +153,7 @@ def write(group, cases, folder):
 
 
 def main():
-    folder = pathlib.Path(sys.argv[1] if len(sys.argv) > 1 else run.FOLDER)
+    folder = pathlib.Path(sys.argv[1] if len(sys.argv) > 1 else form.FOLDER)
     folder.mkdir(parents=True, exist_ok=True)
     rust = Router([COMPARE, "answer", "--router", "rust"])
     missed, total = [], 0
