@@ -39,6 +39,36 @@ def print_groups(asked):
         print(f"{name}: {count - failed[name]} of {count} as owed")
 
 
-def print_rules(failed):
-    for rule in sorted({case.rule for case, _ in failed}):
-        print(f"broken rule: {rule}")
+def by_rule(failed):
+    """The rules of cases that fail, and how many cases each: the one that most of them share first."""
+    return collections.Counter(case.rule for case, _ in failed).most_common()
+
+
+def rule_by_rule(failed):
+    """The cases that fail, those of the rule that most of them share first."""
+    ranks = {rule: rank for rank, (rule, _) in enumerate(by_rule(failed))}
+    return sorted(failed, key=lambda pair: ranks[pair[0].rule])
+
+
+def print_rules(asked, failed):
+    cases = collections.Counter(case.rule for case, _ in asked)
+    for rule, count in by_rule(failed):
+        print(f"broken rule, {count} of its {cases[rule]} cases: {rule}")
+    alone = collections.Counter(filter(None, (differing_alone(failure) for _, failure in failed)))
+    for number, count in alone.most_common():
+        print(f"in {count} of the cases that fail, the {number} differs and all else is as owed")
+
+
+def differing_alone(failure):
+    """Leg or run, if a route is as owed but for it."""
+    owed, given = (numbers_and_steps(lines) for lines in (failure.owed, failure.given))
+    differing = [at for at, pair in enumerate(zip(owed, given)) if pair[0] != pair[1]]
+    return ("leg", "run")[differing[0]] if owed[2] and len(differing) == 1 and differing[0] < 2 else None
+
+
+def numbers_and_steps(lines):
+    """Leg, run and steps of a route's line; what stands before them is left out."""
+    words = lines[0].split()
+    steps = [word for word in words if ":" in word]
+    numbers = words[:len(words) - len(steps)]
+    return (*numbers[-2:], steps) if len(numbers) > 2 else (None, None, [])

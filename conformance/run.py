@@ -7,8 +7,8 @@
     python3 conformance/run.py send hallroute|calls CASE  what a router is given, and nothing else
 
 `--group NAME` in front of COMMAND takes the cases of one file. Each case that fails is printed with the rule of
-document 01 that it is about. The status is 0 if some were tried and none fails. README.md has the forms of cases and
-lines.
+document 01 that it is about, those of the rule that most of them share first. The status is 0 if some were tried and
+none fails. README.md has the forms of cases and lines.
 """
 import concurrent.futures
 import os
@@ -55,11 +55,11 @@ def hold(way, command, group):
         return 1
     asked = ask_all(wanted, fails, command)
     failed = [(case, failure) for case, failure in asked if failure]
-    for case, failure in failed:
+    for case, failure in report.rule_by_rule(failed):
         report.print_failure(case, failure)
     print()
     report.print_groups(asked)
-    report.print_rules(failed)
+    report.print_rules(asked, failed)
     print(f"{way}: {len(wanted)} cases, {len(failed)} fail{stopped(asked, wanted)}")
     return 1 if failed else 0
 

@@ -5,6 +5,7 @@ import contextlib
 import io
 import os
 import pathlib
+import re
 import subprocess
 import sys
 import unittest
@@ -73,7 +74,7 @@ class Programs(unittest.TestCase):
         self.assertEqual(status, 1)
         self.assertIn(f"{case.name} fails. The rule: {case.rule}\n", text)
         self.assertIn("given  0 9999 none\n", text)
-        self.assertIn(f"broken rule: {case.rule}\n", text)
+        self.assertRegex(text, rf"\nbroken rule, \d+ of its \d+ cases: {re.escape(case.rule)}\n")
 
     def test_a_program_that_cannot_be_started(self):
         for interface in ("hallroute", "calls"):
@@ -161,6 +162,36 @@ class Lines(unittest.TestCase):
             self.assertIn("75" if length else "5", owed)
             self.assertIn("79" if length else "9", given)
             self.assertLess(max(len(owed), len(given)), report.SHOWN + 3)
+
+
+class Rules(unittest.TestCase):
+    """Three cases about one rule and one about another, of which one and the other fail."""
+
+    def setUp(self):
+        self.cases = [a_case() for _ in range(5)]
+        for case, name, rule in zip(self.cases, "12345", ["11 first by the alphabet", *["the tie"] * 3, "never broken"]):
+            case.name, case.rule = name, rule
+        failure = asking.Failure("route 0 5", ["2 13 5 0,0:49E9-99 1,0:0-"], ["none"], False)
+        self.asked = [(case, failure if case.name in "124" else None) for case in self.cases]
+        self.failed = [(case, failure) for case, failure in self.asked if failure]
+
+    def test_the_rule_that_most_share_comes_first(self):
+        with contextlib.redirect_stdout(io.StringIO()) as text:
+            report.print_rules(self.asked, self.failed)
+        first, second = text.getvalue().splitlines()
+        self.assertEqual(first, "broken rule, 2 of its 3 cases: the tie")
+        self.assertEqual(second, "broken rule, 1 of its 1 cases: 11 first by the alphabet")
+        self.assertEqual([case.name for case, _ in report.rule_by_rule(self.failed)], ["2", "4", "1"])
+
+    def test_the_number_that_differs_is_told(self):
+        owed = "2 13 5 0,0:49E9-99 1,0:0-"
+        given = {"2 12 5 0,0:49E9-99 1,0:0-": "leg", "2 13 6 0,0:49E9-99 1,0:0-": "run", "2 12 6 0,0:49E9-99 1,0:0-": None,
+                 "2 12 5 0,0:49E9-99 1,0:1-": None, "none": None, "no 25": None, "": None}
+        for pair in ("", "0 100 "):
+            for text, number in given.items():
+                failure = asking.Failure("route 0 100", [pair + owed], [text and pair + text], False)
+                self.assertEqual(report.differing_alone(failure), number, text)
+        self.assertIsNone(report.differing_alone(asking.Failure("plan", ["0 2 1 1"], ["0 2 2 1"], False)))
 
 
 class Show(unittest.TestCase):

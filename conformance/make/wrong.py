@@ -107,7 +107,7 @@ def fails_by_its_rule(edit, interface, program):
     command = [sys.executable, CONFORMANCE / "run.py", interface, build(edit) / program]
     held = subprocess.run(command, capture_output=True, text=True)
     lines = held.stdout.splitlines()
-    named = any(line.startswith("broken rule: ") and edit.rule in line for line in lines)
+    named = any(line.startswith("broken rule, ") and edit.rule in line for line in lines)
     print(f"{edit.name}: {lines[-1]}{'' if named else ', and its rule is not named'}", flush=True)
     return held.returncode == 1 and named
 
