@@ -1,7 +1,7 @@
 #!/usr/bin/env bash
-# Tries run.py, then holds every router to the conformance cases, and a copy of the second reading with one tie changed:
-# it must fail, and the rule must be named. With `all`, every wrong reading must, and the cases must be those that make.py
-# writes. oracle/build.sh has built what answers.
+# Tries run.py and make.py, then holds every router to the conformance cases, and copies of the second reading with a tie
+# changed and with the run cut: they must fail, and the rule must be named. With `all`, every wrong reading must, and the
+# cases must be those that make.py writes. oracle/build.sh has built what answers.
 set -euo pipefail
 cd "$(dirname "${BASH_SOURCE[0]}")"
 answer=../oracle/target/release/compare
@@ -15,6 +15,7 @@ hold() {
 }
 
 python3 test_run.py --quiet
+python3 make/test_make.py --quiet
 
 for router in rust second proved; do
     echo "router $router"
@@ -27,5 +28,5 @@ if [ "${1:-}" = all ]; then
     python3 make/make.py "$scratch/cases"
     diff -r "$scratch/cases" cases
 else
-    python3 make/wrong.py tie_by_index
+    python3 make/wrong.py tie_by_index run_in_a_byte
 fi

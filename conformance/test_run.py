@@ -18,6 +18,7 @@ import report
 import router
 import run
 import show
+import store
 
 FOLDER = pathlib.Path(__file__).resolve().parent
 # Answers each input of hallroute with the text that is owed for it.
@@ -231,6 +232,33 @@ class Show(unittest.TestCase):
         self.assertEqual(held("send", "calls", "plans-999"), (1, "no case plans-999\n"))
 
 
+class Texts(unittest.TestCase):
+    def test_long_lines_go_on_after_a_plus(self):
+        long = "blocked " + " ".join(map(str, range(0, 999, 2)))
+        lines = form.wrapped(long)
+        self.assertGreater(len(lines), 2)
+        self.assertLessEqual(max(map(len, lines)), form.WIDTH)
+        self.assertEqual(form.unwrapped([*lines, "built"]), [long, "built"])
+
+    def test_no_two_cases_are_equal(self):
+        asked = [[line for line, _ in case.statements] for case in form.all_cases()]
+        self.assertEqual([statements for at, statements in enumerate(asked) if statements in asked[:at]], [])
+
+    def test_an_aisle_is_open(self):
+        state = store.State()
+        for line in ("hall 2 1 1", "blocked 0-199", "aisle 8,1 2(E1 S2) W1 N1"):
+            self.assertTrue(store.prepare(state, line))
+        opened = [number for number, cost in enumerate(state.base) if cost == 1]
+        self.assertEqual(opened, [18, 19, 29, 39, 49, 59, 130, 140, 150])
+
+    def test_an_aisle_stays_on_the_floor(self):
+        for aisle in ("8,1 E12", "0,0 W1", "0,0 N1", "0,9 S1"):
+            state = store.State()
+            store.prepare(state, "hall 2 1 1")
+            with self.assertRaises(ValueError, msg=aisle):
+                store.prepare(state, f"aisle {aisle}")
+
+
 class Groups(unittest.TestCase):
     def test_an_unknown_group(self):
         status, text = held("hallroute", "--group", "nosuch", "true")
@@ -252,12 +280,29 @@ class Scaling(unittest.TestCase):
 
 
 class Readme(unittest.TestCase):
+    def setUp(self):
+        self.cases = form.all_cases()
+        self.text = (FOLDER / "README.md").read_text(encoding="utf-8")
+
     def test_the_counts(self):
-        cases = form.all_cases()
-        by_hallroute = [case for case in cases if case.by_hallroute()]
-        text = (FOLDER / "README.md").read_text(encoding="utf-8")
-        self.assertIn(f"{len(by_hallroute)} of the {len(cases)} cases, with {routes(by_hallroute)} of the {routes(cases)} routes", text)
-        self.assertIn(f"{sum(case.by_calls() for case in cases)} cases, with every route", text)
+        by_hallroute = [case for case in self.cases if case.by_hallroute()]
+        self.assertIn(f"{len(by_hallroute)} of the {len(self.cases)} cases, with {routes(by_hallroute)} of the {routes(self.cases)} routes", self.text)
+        by_calls = [case for case in self.cases if case.by_calls()]
+        self.assertIn(f"{len(by_calls)} cases, with {routes(by_calls)} routes", self.text)
+
+    def test_the_examples(self):
+        owed = {case.name: case.statements[-1][1][0] for case in self.cases if case.statements[-1][1]}
+        self.assertIn(f"owed   {owed['ties-02']}\n", self.text)
+        self.assertIn(f"    {owed['corner_gates-23']}\n", self.text)
+        windows = next(case for case in self.cases if case.name == "windows-01")
+        self.assertIn("".join(f"    {line}\n" for line in windows.text().splitlines()), self.text)
+
+    def test_the_longest_routes(self):
+        for by in (form.Case.by_hallroute, form.Case.by_calls):
+            answers = [answer[0] for case in self.cases if by(case) for line, answer in case.statements if line.startswith("route")]
+            numbers = [[int(word) for word in answer.split()[:3]] for answer in answers if answer[0].isdigit()]
+            steps, leg, run = map(max, zip(*numbers))
+            self.assertIn(f"up to {steps} steps, legs up to {leg}, runs up to {run:,}", self.text)
 
 
 if __name__ == "__main__":

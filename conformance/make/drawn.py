@@ -12,6 +12,7 @@ ABOUT = {
     "pairs": "Which pair of start and end portal is taken; leg and run.",
     "corner_gates": "Windows that meet in a corner, and which positions of a path are steps.",
     "moves": "Moves inside a sector, open and blocked cells, routes inside one sector.",
+    "winding": "Winding floors: many steps, long runs and long legs.",
     "windows": "Open places, windows, their order and midpoints.",
     "scaling": "Which cells the trolley's width blocks: order, walks, and where they write.",
     "changes": "Which sectors a change rescales, and in which order.",

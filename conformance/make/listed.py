@@ -1,6 +1,7 @@
 """Cases that are listed one by one: the floors of document 01, and every limit and refusal with its neighbours."""
 import struct
 
+import winding
 from floors import Draw, Hall, scatter
 
 READ = (
@@ -36,6 +37,14 @@ LINES = "Else `S G none`, `S G no N`, `hall refused N` and no further line, a la
 PLAN = (
     "Plan: 1 a value not finite; 2 a size ≤ 0; 3 radius ≤ 0; 4 unit ≤ 0; 5 columns or rows below 1 before the cut; 6 radius ≥ sector "
     "length; 7 scale ≥ 10; 8 scale 0 (the quotient rounds to 0); 9 columns or rows above 10."
+)
+LISTING = (
+    "Its step list holds 1,001. Input hex `02 01 01 00 00 00 00 64 00` prints just `0 100 2 13 5 0,0:49E9-99 1,0:0-`: source, goal, "
+    "steps, leg, run, then per step column,row:goal index, side letter and first-last index, or `-`."
+)
+TIES = (
+    "Among least-cost portal paths: fewest edges, then, at the first difference, the portal first in `PortalNode` order (sector, first "
+    "cell, last cell, boundary N, E, S, W; cells by column, then row)."
 )
 COLUMNS = "Columns and rows are each size over sector length, cut down."
 SCALE = "Scale is the radius over the unit, divided once in f32, then rounded up."
@@ -83,6 +92,9 @@ def argument_refusals():
     found += [(WINDOWS, [*OPEN, call]) for call in windows]
     closed = ["hall 2 1 1", "blocked 0", "built"]
     found += [(ROUTE, [*closed, f"route 0 {goal} room {room}"]) for goal, room in ((0, 0), (0, 1), (1, 0), (150, 0), (150, 3))]
+    # A route of 304 steps.
+    *floor, route = winding.aisle(5, 8, winding.weave(5, 8))
+    found.append((ROUTE, [*floor, f"{route} room 303"]))
     return found + [(WINDOWS, ["hall 1 1 1", "built", f"windows 0 room {room}"]) for room in (0, 1)]
 
 
@@ -97,8 +109,8 @@ def files():
     whole = file_of((1, 1, 1), [(5, 255), (7, 40)])
     found = [(READ, f"file {whole[:2 * length] or '-'} list 100") for length in (0, 1, 4, 5, 6, 10)]
     found += [(READ, f"file {whole}{more} list 100") for more in ("00", "000000")]
-    heads = ["000101", "010001", "0b0101", "010b01", "010100", "01010a", "000000", "01010a"]
-    found += [(READ, f"file {head}{count} list 100") for head in heads for count in ("0000", "1127")][::2]
+    heads = ["000101", "010001", "0b0101", "010b01", "010100", "01010a", "000000"]
+    found += [(READ, f"file {head}0000 list 100") for head in heads] + [(READ, f"file {head}1127 list 100") for head in ("0b0101", "01010a")]
     found += [(READ, f"file 01{'01' * 2}{count} zeros {3 * number} list 100") for count, number in (("1027", 10000), ("1127", 10001))]
     found += [(READ, f"file 010101{count} list {length}") for count in ("1027", "1127") for length in (100, 0)]
     beyond = [[(99, 2)], [(100, 2)], [(100, 2), (100, 2), (3, 1)], [(65535, 2)], [(3, 2), (356, 2)]]
@@ -136,9 +148,8 @@ def plans():
     )]
     sizes = [(unit, sectors) for unit in (0.07, 0.3, 0.7, 1.1) for sectors in (1, 3, 6, 7)]
     asked += [(COLUMNS, (single(single(unit * 10) * sectors), unit * 70, unit, unit)) for unit, sectors in sizes]
-    asked += [(COLUMNS, (unit * 10 * sectors, unit * 70, unit, unit)) for unit, sectors in sizes]
     steps = [(unit, times) for unit in (0.1, 0.07, 0.3, 0.7, 1.1) for times in (1, 3, 6, 7, 9)]
-    asked += [(SCALE, (unit * 30, unit * 30, unit, unit * times)) for unit, times in steps]
+    asked += [(SCALE, (unit * 40, unit * 40, unit, unit * times)) for unit, times in steps]
     return [(rule, [plan(*values)]) for rule, values in asked]
 
 
@@ -148,20 +159,29 @@ def single(value):
 
 
 def limits():
+    return [*long_floors(), *large_floors()]
+
+
+def long_floors():
+    """Floors of one row or column of sectors with a few blocked cells, at scale 1 and 9; serpentines on others."""
     found = []
-    for columns, rows in ((10, 1), (1, 10), (10, 2), (3, 7)):
-        rule, cells = SIZES if 1 in (columns, rows) else NUMBER, 100 * columns * rows
-        for scale in (1, 9):
-            hall = Hall(columns, rows, scale)
-            scatter(Draw(200 + columns + scale), hall, 8 if scale == 9 else 60)
-            pairs = [(0, cells - 1), (cells - 1, 0), (cells // 2, 99)]
-            found.append((rule, [*hall.statements("build"), *(f"route {s} {g}" for s, g in pairs)]))
+    for columns, rows, scale, seed in ((10, 1, 1, 200), (10, 1, 9, 219), (1, 10, 1, 200), (1, 10, 9, 210)):
+        hall, cells = Hall(columns, rows, scale), 100 * columns * rows
+        scatter(Draw(seed), hall, 8 if scale == 9 else 60)
+        pairs = [(0, cells - 1), (cells - 1, 0), (cells // 2, 99)]
+        found.append((SIZES, [*hall.statements("build"), *(f"route {s} {g}" for s, g in pairs)]))
+    return found + [(NUMBER, winding.aisle(columns, rows, winding.serpentine(columns, rows))) for columns, rows in ((10, 2), (3, 7), (2, 10))]
+
+
+def large_floors():
     largest = ["hall 10 10 1", "build", "windows 99 room 20", "windows 100 room 20", "change 9999 255", "change 10000 255"]
-    found.append((SIZES, largest))
-    found.append((NUMBER, ["hall 10 10 1", "built", "route 0 9999", "route 9999 0", "route 900 99", "route 10000 0"]))
-    found.append((SIZES, ["hall 10 10 9", "blocked 0 9999 4545", "build", "route 5050 950"]))
-    found.append((SIZES, ["hall 1 1 9", "blocked 44", "build", "route 0 99", "windows 0 room 0"]))
-    return found
+    corner = winding.closed(10, 10, "0,0 E99 S99")
+    return [
+        (SIZES, largest),
+        (NUMBER, [*corner, "route 0 9999", "route 9999 0", "route 900 99", "route 10000 0"]),
+        (SIZES, ["hall 10 10 9", "blocked 0 9999 4545", "build", "route 5050 9050"]),
+        (SIZES, ["hall 1 1 9", "blocked 44", "build", "route 0 99", "windows 0 room 0"]),
+    ]
 
 
 def program():
@@ -171,13 +191,16 @@ def program():
     found += [(LINES, f"{hall}c8000000{pair}"), (LINES, f"{hall}0000c800{pair}"), (LINES, f"{hall}c800c800"), (LINES, f"{hall}ffffffff00")]
     closed = file_of((2, 1, 1), [(0, 255)])
     found += [(LINES, f"{closed}{pair}{pair}05006400"), (LINES, f"{closed}00000000"), (LINES, f"{closed}{pair}00")]
-    found += [(PROGRAM, text) for text in ("-", "02", "02010100", "0201010100", "0201010100c800", "0201010100c80007", "0b01010000", "01010a0000")]
+    found += [(PROGRAM, text) for text in ("-", "02", "02010100", "0201010100", "0201010100c800")]
+    found += [(LINES, text) for text in ("0201010100c80007", "01010a0000")]
     found += [(LINES, f"0b010100{spare}") for spare in ("00", "000001", "00000102", "0000010203", "0000")]
     found += [(LINES, f"{file_of((1, 1, 1), [(100, 2)])}{spare}") for spare in ("", "01", "00000000")]
     found += [(PROGRAM, f"0101011027 zeros {30000 + more}") for more in (0, 4, 7)] + [(PROGRAM, "0101011027 zeros 29999")]
     found += [(PROGRAM, f"0101011127 zeros {more}") for more in (0, 30003, 65531, 65532)]
     found += [(PROGRAM, f"0101010000 zeros {more}") for more in (65527, 65530, 65531, 65532, 65535)] + [(PROGRAM, "- zeros 65536"), (PROGRAM, "- zeros 65537")]
-    return [(rule, [f"input {text}"]) for rule, text in found]
+    *floor, route = winding.aisle(10, 10, winding.weave(10, 10))
+    _, source, goal = route.split()
+    return [(rule, [f"input {text}"]) for rule, text in found] + [(LISTING, [*floor, f"route {goal} {source}"])]
 
 
 def floors_of(*listed):
@@ -185,7 +208,10 @@ def floors_of(*listed):
 
 
 GROUPS = {
-    "limits": limits, "refusals": refusals, "files": files, "plans": plans, "program": program,
+    "limits": limits, "refusals": refusals, "files": files, "plans": plans, "program": program, "winding": winding.winding,
+    "ties": floors_of(
+        (TIES, ["hall 10 10 1", "built", "route 0 9999", "route 9999 0", "route 900 99"]),
+    ),
     "scaling": floors_of(
         ("the walk stops at the first blocked cell or the end of the floor", ["hall 1 1 2", "blocked 51", "build"]),
         ("the walk stops at the first blocked cell or the end of the floor", ["hall 1 1 2", "blocked 52", "build"]),
@@ -210,7 +236,7 @@ GROUPS = {
     ),
     "windows": floors_of(
         ("Windows are the longest open runs, in order.", ["hall 2 1 1", "blocked 29 49 59 69 79 89 99", "build", "windows 0 room 20", "windows 1 room 20"]),
-        ("Midpoint = (first + last) / 2, cut down.", ["hall 3 3 1", "build", "windows 4 room 4", "route 0 800"]),
+        ("Midpoint = (first + last) / 2, cut down.", ["hall 3 3 1", "build", "windows 4 room 4", "route 0 300"]),
     ),
     "moves": floors_of(
         ("if the goal is joined to the source in its sector, one step, leg 0, run the fewest moves.", ["hall 2 1 1", "blocked 0", "built", "route 0 0"]),

@@ -4,7 +4,8 @@
 Owed answers are those of the Rust of docs/src (compare answer --router rust). Drawn cases are kept because a wrong
 reading of document 01 (wrong/*.edit) answers them otherwise: for each wrong reading the shortest of those drawn, and for
 one of scaling also the shortest whose routes a program like hallroute prints otherwise. Listed cases come from
-listed.py. The status is not 0 if a wrong reading passes all cases of its group.
+listed.py. No case that is about another rule has a tie: a router with a wrong tie fails by that rule alone. The status is
+not 0 if a wrong reading passes all cases of its group, or two cases are equal.
 
     python3 conformance/make/make.py [FOLDER]     writes into FOLDER, or over ../cases
 """
@@ -103,6 +104,11 @@ def telling_by_route(edit, pool):
     return (case for case in telling(edit, built) if asking.fails_hallroute(case, [program]))
 
 
+def tied(pool):
+    """The cases of a pool that a wrong tie answers otherwise."""
+    return {id(case) for edit in wrong.all_edits() if edit.group == "ties" for case in telling(edit, pool)}
+
+
 def drawn_cases(group, edits, rust):
     """For each wrong reading of a group, the shortest of the drawn cases that tell it."""
     cases = []
@@ -116,9 +122,10 @@ def drawn_cases(group, edits, rust):
 def kept(drawn_statements, tells, most, group, edits, rust):
     """For each wrong reading, the first cases of a pool that tell it and are kept for no other."""
     pool = [answered(group, "", statements, rust) for statements in drawn_statements]
-    cases, texts = [], set()
+    cases, texts, ties = [], set(), tied(pool)
     for edit in edits:
-        fresh = (case for case in tells(edit, pool) if case.text() not in texts)
+        untied = (case for case in tells(edit, pool) if edit.rule == listed.TIES or id(case) not in ties)
+        fresh = (case for case in untied if case.text() not in texts)
         for case in itertools.islice(fresh, most):
             texts.add(case.text())
             case.rule, case.against = edit.rule, edit.what
@@ -127,12 +134,15 @@ def kept(drawn_statements, tells, most, group, edits, rust):
 
 
 def listed_cases(group, rust):
-    found = []
+    pool = []
     for rule, statements in listed.GROUPS[group]():
-        case, _ = answered(group, "", statements, rust)
-        case.rule = rule
-        found.append(case)
-    return found
+        pool.append(answered(group, "", statements, rust))
+        pool[-1][0].rule = rule
+    ties = tied(pool)
+    for case, _ in pool:
+        if id(case) in ties and case.rule != listed.TIES:
+            sys.exit(f"a tie decides, which is another rule than that of\n{case.rule}\n{case.text()}")
+    return [case for case, _ in pool]
 
 
 def caught(edit, cases):
@@ -143,11 +153,23 @@ def caught(edit, cases):
     return sum(failure is not None for failure in by_calls + by_program)
 
 
-def write(group, cases, folder):
+def asked_by(case):
+    """What a case asks, without remarks."""
+    return tuple(line.partition(" # ")[0] for line, _ in case.statements)
+
+
+def name(group, cases, known):
+    """Names the cases of a group; `known` has what the cases named before ask."""
     for at, case in enumerate(cases, 1):
         case.name = f"{group}-{at:02}"
         if case.rule not in SCOPE:
             sys.exit(f"{case.name}: no sentence of document 01: {case.rule}")
+        equal = known.setdefault(asked_by(case), case.name)
+        if equal != case.name:
+            sys.exit(f"{case.name} asks the same as {equal}")
+
+
+def write(group, cases, folder):
     text = f"# {drawn.ABOUT[group]}\n\n{form.written(cases)}"
     (folder / f"{group}.txt").write_text(text, encoding="utf-8")
 
@@ -156,11 +178,12 @@ def main():
     folder = pathlib.Path(sys.argv[1] if len(sys.argv) > 1 else form.FOLDER)
     folder.mkdir(parents=True, exist_ok=True)
     rust = Router([COMPARE, "answer", "--router", "rust"])
-    missed, total = [], 0
+    missed, total, known = [], 0, {}
     for group in drawn.ABOUT:
         edits = [edit for edit in wrong.all_edits() if edit.group == group]
         cases = listed_cases(group, rust) if group in listed.GROUPS else []
         cases += drawn_cases(group, edits, rust)
+        name(group, cases, known)
         counts = {edit.name: caught(edit, cases) for edit in edits}
         missed += [name for name, count in counts.items() if not count]
         write(group, cases, folder)

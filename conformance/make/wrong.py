@@ -103,12 +103,14 @@ def programs(edit):
 
 
 def fails_by_its_rule(edit, interface, program):
-    """Whether a wrong reading fails and the rule that it breaks is named."""
+    """Whether a wrong reading fails and the rule that it breaks is named, for a wrong tie that alone."""
     command = [sys.executable, CONFORMANCE / "run.py", interface, build(edit) / program]
     held = subprocess.run(command, capture_output=True, text=True)
     lines = held.stdout.splitlines()
-    named = any(line.startswith("broken rule, ") and edit.rule in line for line in lines)
-    print(f"{edit.name}: {lines[-1]}{'' if named else ', and its rule is not named'}", flush=True)
+    broken = [edit.rule in line for line in lines if line.startswith("broken rule, ")]
+    # No case about another rule has a tie.
+    named = any(broken) if edit.group != "ties" else all(broken)
+    print(f"{edit.name}: {lines[-1]}{'' if named else ', and its rule is not named, or not alone'}", flush=True)
     return held.returncode == 1 and named
 
 
