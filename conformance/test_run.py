@@ -206,6 +206,18 @@ class Show(unittest.TestCase):
         for line, told in (("0a" * 8, "8*0a"), ("0a" * 7, "0a" * 7), (f"file 03{'00' * 9}ff0102 -", "file 03 9*00 ff0102 -")):
             self.assertEqual(show.counted(line), told)
 
+    def test_every_floor_can_be_drawn(self):
+        for case in form.all_cases():
+            lines = show.drawing(case)
+            self.assertEqual(bool(lines), any(line.startswith("hall ") for line, _ in case.statements), case.name)
+
+    def test_whoever_reads_may_stop(self):
+        reader, writer = os.pipe()
+        os.close(reader)
+        ended = subprocess.run([sys.executable, FOLDER / "run.py", "show", "plans-01"], stdout=writer, stderr=subprocess.PIPE)
+        os.close(writer)
+        self.assertEqual((ended.returncode, ended.stderr), (1, b""))
+
     def test_the_floor_is_drawn(self):
         case = a_case("hall 1 2 3", "blocked 1 110-119", "cost 0 2", "cost 7 3", "cost 40 4", "built", "route 0 199", "route 5 5")
         rows = ["S#07~....."] + [".........."] * 10 + ["##########"] + [".........."] * 7 + [".........G"]

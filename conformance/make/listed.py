@@ -92,9 +92,10 @@ def argument_refusals():
     found += [(WINDOWS, [*OPEN, call]) for call in windows]
     closed = ["hall 2 1 1", "blocked 0", "built"]
     found += [(ROUTE, [*closed, f"route 0 {goal} room {room}"]) for goal, room in ((0, 0), (0, 1), (1, 0), (150, 0), (150, 3))]
-    # A route of 304 steps.
-    *floor, route = winding.aisle(5, 8, winding.weave(5, 8))
-    found.append((ROUTE, [*floor, f"{route} room 303"]))
+    # A list that is one step short.
+    long = winding.weave(5, 8)
+    *floor, route = winding.aisle(5, 8, long)
+    found.append((ROUTE, [*floor, f"{route} room {winding.steps(long) - 1}"]))
     return found + [(WINDOWS, ["hall 1 1 1", "built", f"windows 0 room {room}"]) for room in (0, 1)]
 
 

@@ -42,6 +42,12 @@ def aisle(columns, rows, way):
     return [*closed(columns, rows, way), route(columns, rows, cells[0], cells[-1])]
 
 
+def steps(way):
+    """The steps of the route along an aisle: one for the first sector, and one each time that it enters another."""
+    sectors = [(x // 10, y // 10) for x, y in aisle_cells(way.split())]
+    return 1 + sum(here != there for here, there in zip(sectors, sectors[1:]))
+
+
 def route(columns, rows, source, goal):
     """By column and row of the whole floor."""
     hall = Hall(columns, rows, 1)
