@@ -7,7 +7,7 @@ use mathlib.Core.Bool.{true, true≢false}
 use mathlib.Core.List.{List}
 use lib.ListN.{length, List·getD-eq-default}
 use Rattle.laws.specs.Graph.{below-or}
-use Rattle.laws.specs.Floor.{Floor}
+use Rattle.laws.specs.Floor.{Floor, BorderMove}
 use Rattle.model.specs.declared.Measures.{Measures}
 use Rattle.model.specs.declared.Side.{Side}
 use Rattle.model.specs.Cells.{cellAt, opposite}
@@ -17,27 +17,31 @@ use Rattle.model.specs.Costs.{openAt}
 use Rattle.model.specs.Sectors.{sectors, cells, floorNumber, sectorOf, placeOf, beyond, hasBeyond}
 use Rattle.model.specs.SectorSides.{sectorOn, same-sector, is-beyond, floorOn, floor-is}
 use Rattle.model.specs.Windows.{border}
-use Rattle.model.specs.Account.{ShareSide}
+use Rattle.model.specs.Account.{ShareSide, AnyBorder}
 use Rattle.audit.specs.Borders.{share-over}
 
 -- ---- the floor
--- a move between open cells that share a side, of which `Sectors` says whether it stays in a sector
-pub record Move (m : Measures) (costs : List ℕ) (Sectors : ℕ → ℕ → Type 0) (x y : ℕ) : Type 0 where
+-- a move between open cells that share a side, of a kind: inside a sector, or over a border
+pub record Move (m : Measures) (costs : List ℕ) (Kind : ℕ → ℕ → Type 0) (x y : ℕ) : Type 0 where
   pub leaves : openAt costs x ≡ true
   pub enters : openAt costs y ≡ true
   pub side : ShareSide m x y
-  pub kind : Sectors (sectorOf x) (sectorOf y)
+  pub kind : Kind x y
 
-abbrev pub floorOf : Measures → List ℕ → Floor
-floorOf m costs = record {
+-- the floor on which the moves over a border are those that are Allowed
+abbrev pub floorBy : (BorderMove → Type 0) → Measures → List ℕ → Floor
+floorBy Allowed m costs = record {
   Open = λ x. openAt costs x ≡ true;
-  Step = Move m costs (λ s t. s ≡ t);
-  Cross = Move m costs (λ s t. s ≢ t);
+  Step = Move m costs (λ x y. sectorOf x ≡ sectorOf y);
+  Cross = Move m costs (λ x y. (sectorOf x ≢ sectorOf y) × Allowed (record { from = x; to = y }));
   step-leaves = λ x y w. w .leaves;
   step-opens = λ x y w. w .enters;
   cross-leaves = λ x y w. w .leaves;
   cross-opens = λ x y w. w .enters;
 }
+
+abbrev pub floorOf : Measures → List ℕ → Floor
+floorOf m costs = floorBy AnyBorder m costs
 
 -- an open cell is on the floor
 pub open-on : (costs : List ℕ) (x : ℕ) → openAt costs x ≡ true → x < length costs
@@ -80,7 +84,7 @@ module _ (m : Measures) (costs : List ℕ) (sized : length costs ≡ cells m) wh
           let a : Axis = axis k in
           let b : Axis = other (axis k) in
           let u = level (sectorOn m (sectorOf x) b) (sectorOn m (sectorOf y) b) (cellOn (cellAt (placeOf x)) b) (cellOn (cellAt (placeOf y)) b) (cell-low b (placeOf x) (low x)) (cell-low b (placeOf y) (low y)) (rw (floor-is m x b, floor-is m y b) at (o .stays)) in
-          let v = next-carry (sense k) {a = sectorOn m (sectorOf x) a} {b = sectorOn m (sectorOf y) a} (cell-low a (placeOf x) (low x)) (cell-low a (placeOf y) (low y)) (λ q. c .kind (same-sector m a (sectorOf x) (sectorOf y) q (u .0))) (rw (floor-is m x a, floor-is m y a) at (o .moves)) in
+          let v = next-carry (sense k) {a = sectorOn m (sectorOf x) a} {b = sectorOn m (sectorOf y) a} (cell-low a (placeOf x) (low x)) (cell-low a (placeOf y) (low y)) (λ q. c .kind .0 (same-sector m a (sectorOf x) (sectorOf y) q (u .0))) (rw (floor-is m x a, floor-is m y a) at (o .moves)) in
           let there = is-beyond m (sectorOf x) on k (sectorOf y) (open-sector y (c .enters)) (record { moves = v .0; stays = u .0 }) in
           let at : ℕ = cellOn (cellAt (placeOf x)) b in
           let low-at : at < 10 = cell-low b (placeOf x) (low x) in

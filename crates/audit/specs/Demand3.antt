@@ -2,13 +2,13 @@
 use Prim.Native.Nat.{ℕ, zero, suc, _+_, _≤_, _<_}
 use native.Mathlib.Omega.{arith}
 use mathlib.Core.Path.{_≡_, sym, _∙_}
+use mathlib.Core.Logic.{_↔_}
 use mathlib.Core.Bool.{false}
 use mathlib.Core.List.{List}
 use lib.ListN.{length}
 use borrow.Author.Tests.{le-ltb, lt-leb}
 use Rattle.laws.specs.Ladder.{refuse}
-use Rattle.laws.specs.Floor.{stand, step, cross, walk-starts}
-use Rattle.laws.specs.Floor as floor
+use Rattle.laws.specs.Floor.{BorderMove, Walk, walk-starts, walk-ends}
 use Rattle.laws.specs.Detour.{Promise}
 use Rattle.model.specs.declared.Measures.{Measures}
 use Rattle.model.specs.declared.RouteStep.{RouteStep}
@@ -17,7 +17,8 @@ use Rattle.model.specs.Sectors.{cells}
 use Rattle.model.specs.Moves.{joined}
 use Rattle.model.specs.Halls.{Hall}
 use Rattle.model.specs.Route.{Found, none, route, routeOf}
-use Rattle.model.specs.Account.{Call, Account, accountCosts}
+use Rattle.model.specs.Account.{Call, Account, accountCosts, AnyBorder}
+use Rattle.model.specs.Account as account
 use Rattle.model.specs.Calls.{orElse, built, buildInto, stepList, foundNumber, routeNumber, routed, routeAnswer, storeAfter}
 use Rattle.audit.specs.Crossings.{floorOf, open-on}
 use Rattle.audit.specs.FreshMarks.{Fresh}
@@ -35,12 +36,6 @@ routed-is zero (route list a b) steps leg run e = let x = same-answer e in (list
     same-answer e = (cc, cc)
 routed-is zero none steps leg run e = absurd (let z : _≡_ {A = ℕ} 0 1 = cc in omega arith)
 routed-is (suc n) found steps leg run e = absurd (let z : _≡_ {A = ℕ} 0 1 = cc in omega arith)
-
--- both ends of a walk are open
-walk-ends : {f : floor.Floor} {x y n k : ℕ} → floor.Walk f x y n k → f .Open y
-walk-ends (stand o) = o
-walk-ends (step s w) = walk-ends w
-walk-ends (cross c w) = walk-ends w
 
 module _ {a : Account} {lent st : List ℕ} (r : Reached a lent st) {source goal room : ℕ} (asked : LastCall a source goal room) where
   abbrev hall : Hall
@@ -78,21 +73,24 @@ module _ {a : Account} {lent st : List ℕ} (r : Reached a lent st) {source goal
   unfolding foundNumber refuse stepList routed built
   answered leg run g =
       let w = kept .exactly-when .0 (leg, run, g) in
-      let from = on-floor source (walk-starts (w .2)) in
-      let to = on-floor goal (walk-ends (w .2)) in
+      let from = on-floor source (walk-starts (w .1 .1)) in
+      let to = on-floor goal (walk-ends (w .1 .1)) in
       let few = route-room hall is-fresh source goal (g .0) leg run (g .1) in
       let enough = le-ltb room (length (g .0)) (omega (arith, asked .roomy)) in
       (length (g .0), leg, run, answer-is ∙ rw (g .1, lt-leb (cells (a .measures)) source from, lt-leb (cells (a .measures)) goal to, enough))
+
+  same-walks : (n : ℕ) (over : List BorderMove) → Walk (floorOf (a .measures) (accountCosts a)) source goal n over ↔ account.Walk a source goal n over
+  same-walks n over = walk-is AnyBorder a cell-costs source goal n over
 
   -- THE CLAIM HOLDS ON A REACHED HALL
   pub route-claims : Claim a source goal (routeAnswer st source goal room)
   route-claims = record {
     exactly-when = (
-      λ g. let w = kept .exactly-when .0 (g .1, g .2, given (g .0) (g .1) (g .2) (g .3)) in (w .0, w .1, walk-is a cell-costs source goal (w .0) (w .1) .0 (w .2)),
-      λ w. let g = kept .exactly-when .1 (w .0, w .1, walk-is a cell-costs source goal (w .0) (w .1) .1 (w .2)) in answered (g .0) (g .1) (g .2),
+      λ g. let w = kept .exactly-when .0 (g .1, g .2, given (g .0) (g .1) (g .2) (g .3)) in (w .0, w .1 .0, same-walks (w .0) (w .1 .0) .0 (w .1 .1)),
+      λ w. let g = kept .exactly-when .1 (w .0, (w .1, same-walks (w .0) (w .1) .1 (w .2))) in answered (g .0) (g .1) (g .2),
     );
-    some-walk = λ steps leg run e. let w = kept .is-a-walk leg run (given steps leg run e) in (w .0, walk-is a cell-costs source goal (leg + run) (w .0) .0 (w .1));
-    at-most = λ steps leg run e n k w. kept .at-most leg run (given steps leg run e) n k (walk-is a cell-costs source goal n k .1 w);
+    some-walk = λ steps leg run e. let w = kept .is-a-walk leg run (given steps leg run e) in (w .0, same-walks (leg + run) (w .0) .0 (w .1));
+    at-most = λ steps leg run e n over w. kept .at-most leg run (given steps leg run e) n over (same-walks n over .1 w);
   }
 
 -- THE THEOREM

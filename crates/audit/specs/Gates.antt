@@ -47,7 +47,7 @@ module _ (h : Hall) (fresh : Fresh h) where
           leaves = b .0;
           enters = b .1;
           side = share-border (h .measures) s far k i l (x .over);
-          kind = λ e. x .apart (sym (sector-cell s (border k i) (border-low k i l)) ∙ e ∙ sector-cell far (border (opposite k) i) (border-low (opposite k) i l));
+          kind = (λ e. x .apart (sym (sector-cell s (border k i) (border-low k i l)) ∙ e ∙ sector-cell far (border (opposite k) i) (border-low (opposite k) i l)), tt);
         }
 
     -- window j

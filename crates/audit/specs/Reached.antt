@@ -13,17 +13,13 @@ use Rattle.laws.specs.Fold.{pick}
 use Rattle.laws.specs.Graph.{below-or}
 use Rattle.model.specs.declared.Measures.{Measures}
 use Rattle.model.specs.Sectors.{cells}
-use Rattle.model.specs.Account.{Call, change, route, Account, fed, accountAfter}
+use Rattle.model.specs.Account.{Call, change, route, Account, opening, fed, accountAfter}
 use Rattle.model.specs.Store.{decode, written}
 use Rattle.model.specs.Calls.{ifAccepted, buildNumber, built, buildInto, checkNumber, changeNumber, changeInto, storeAfterCall, storeAfter}
 use Rattle.audit.specs.FreshMarks.{Fresh}
 use Rattle.audit.specs.StoreAfter.{accepts, fresh, decoded, checks, changed-one, refused-off, refused-leaves}
 
 -- ---- the definition
--- what build was given
-abbrev pub opening : Measures → List ℕ → Account
-opening m base = record { measures = m; base = base }
-
 -- Build of the account is accepted in the store `lent`, and the store `st` is what it leaves there, byte for byte: the hall of the account, and past its size what was lent.
 pub record Reached (a : Account) (lent st : List ℕ) : Type 0 where
   pub accepted : buildNumber (a .measures) (a .base) lent ≡ 0

@@ -8,15 +8,19 @@ use mathlib.Core.List.{List, [], _∷_}
 use lib.Dec.{ltb}
 use lib.ListN.{replicate}
 use Rattle.laws.specs.Search.{passing}
+use Rattle.laws.specs.Floor.{BorderMove}
 use Rattle.model.specs.declared.Routed.the-variants.{Route}
-use Rattle.model.specs.Account.{Call, change, route, accountAfter, Walk}
+use Rattle.model.specs.Account.{Call, change, route, opening, accountAfter, accountCosts, Along, Walk}
 use Rattle.model.specs.Store.{sizeOf}
 use Rattle.model.specs.Calls.{buildInto, routeAnswer, storeAfter}
 use Rattle.model.specs.Computing.{computing}
 use Rattle.audit.specs.Starred.{hall, floor}
-use Rattle.audit.specs.Reached.{opening}
 use Rattle.audit.specs.Claim.{Claim}
 use Rattle.audit.specs.Demand3.{demand-3}
+
+-- the move over a border from x to y
+abbrev over : ℕ → ℕ → BorderMove
+over x y = record { from = x; to = y }
 
 -- ---- 2 by 1, all open, then three calls: one change, one that is refused, and a route call
 abbrev base : List ℕ
@@ -38,13 +42,13 @@ given : routeAnswer (storeAfter (buildInto (hall 2 1 1) base lent) list) 99 190 
 unfolding computing
 given = refl
 
-walk : Walk (accountAfter (opening (hall 2 1 1) base) list) 99 190 1 1
+walk : Walk (accountAfter (opening (hall 2 1 1) base) list) 99 190 1 (over 99 190 ∷ [])
 unfolding computing
-walk = record { next = 190 ∷ []; goes = (omega arith, refl, inr (refl, inl refl), (omega arith, refl, refl)); moves = refl; crossed = refl }
+walk = record { next = 190 ∷ []; goes = (omega arith, refl, inr (refl, inl refl), (omega arith, refl, refl)); moves = refl; crossed = refl; allowed = λ b i. tt }
 
 -- run + 5 is n + 10 × k: the bound is met exactly
 met : 6 + 5 ≤ 1 + 10 * 1
-met = claims .at-most 2 5 6 given 1 1 walk
+met = claims .at-most 2 5 6 given 1 (over 99 190 ∷ []) walk
 
 -- ---- the bound is sharp for more borders: 3 by 1, the insides walled except row 9, the border columns open
 abbrev walled : List ℕ
@@ -55,6 +59,22 @@ sharp : routeAnswer (buildInto (hall 3 1 1) (floor (hall 3 1 1) walled) (replica
 unfolding computing
 sharp = refl
 
-along-row-9 : Walk (opening (hall 3 1 1) (floor (hall 3 1 1) walled)) 99 290 11 2
+-- x is followed by these cells, up to 290
+abbrev ToEnd : ℕ → List ℕ → Type 0
+ToEnd x next = Along (hall 3 1 1) (accountCosts (opening (hall 3 1 1) (floor (hall 3 1 1) walled))) x next 290
+
+along-row-9 : Walk (opening (hall 3 1 1) (floor (hall 3 1 1) walled)) 99 290 11 (over 99 190 ∷ over 199 290 ∷ [])
 unfolding computing
-along-row-9 = record { next = 190 ∷ 191 ∷ 192 ∷ 193 ∷ 194 ∷ 195 ∷ 196 ∷ 197 ∷ 198 ∷ 199 ∷ 290 ∷ []; goes = (omega arith, refl, inr (refl, inl refl), (omega arith, refl, inr (refl, inl refl), (omega arith, refl, inr (refl, inl refl), (omega arith, refl, inr (refl, inl refl), (omega arith, refl, inr (refl, inl refl), (omega arith, refl, inr (refl, inl refl), (omega arith, refl, inr (refl, inl refl), (omega arith, refl, inr (refl, inl refl), (omega arith, refl, inr (refl, inl refl), (omega arith, refl, inr (refl, inl refl), (omega arith, refl, inr (refl, inl refl), (omega arith, refl, refl)))))))))))); moves = refl; crossed = refl }
+along-row-9 =
+    let a : ToEnd 198 (199 ∷ 290 ∷ []) = (omega arith, refl, inr (refl, inl refl), (omega arith, refl, inr (refl, inl refl), (omega arith, refl, refl))) in
+    let b : ToEnd 195 (196 ∷ 197 ∷ 198 ∷ 199 ∷ 290 ∷ []) =
+    (omega arith, refl, inr (refl, inl refl), (omega arith, refl, inr (refl, inl refl), (omega arith, refl, inr (refl, inl refl), a))) in
+    let c : ToEnd 192 (193 ∷ 194 ∷ 195 ∷ 196 ∷ 197 ∷ 198 ∷ 199 ∷ 290 ∷ []) =
+    (omega arith, refl, inr (refl, inl refl), (omega arith, refl, inr (refl, inl refl), (omega arith, refl, inr (refl, inl refl), b))) in
+    record {
+      next = 190 ∷ 191 ∷ 192 ∷ 193 ∷ 194 ∷ 195 ∷ 196 ∷ 197 ∷ 198 ∷ 199 ∷ 290 ∷ [];
+      goes = (omega arith, refl, inr (refl, inl refl), (omega arith, refl, inr (refl, inl refl), (omega arith, refl, inr (refl, inl refl), c)));
+      moves = refl;
+      crossed = refl;
+      allowed = λ b i. tt;
+    }

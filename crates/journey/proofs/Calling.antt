@@ -151,7 +151,8 @@ module _ (m : Measures) (base lent : List ℕ) (list : List Call) (steps : List 
     build-0 : buildNumber m base lent ≡ 0
     build-0 = sym is ∙ none accepted
 
-    pub asked-answer : (used : List ℕ) {r : Routed} → r ≡ routeAnswer st source goal (length used / 6) → length used ≡ length steps → r ≡ journeyAnswer m base lent list source goal (length steps / 6)
+    pub asked-answer : (used : List ℕ) {r : Routed} → r ≡ routeAnswer st source goal (length used / 6) → length used ≡ length steps
+        → r ≡ journeyAnswer m base lent list source goal (length steps / 6)
     unfolding journeyAnswer journeyInto ifAccepted
     asked-answer used e same = e ∙ rw (made, build-0, same)
 

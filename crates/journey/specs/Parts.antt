@@ -5,9 +5,9 @@ use mathlib.Core.Path.{_≡_}
 use mathlib.Core.List.{List}
 use Rattle.model.specs.declared.Measures.{Measures}
 use Rattle.model.specs.declared.Routed.{Routed}
-use Rattle.model.specs.Account.{Call, Account, accountAfter}
+use Rattle.model.specs.Account.{Call, Account, opening, accountAfter}
 use Rattle.model.specs.Calls.{ifAccepted, buildNumber, routeAnswer}
-use Rattle.audit.specs.Reached.{opening, ChangesOnlyAtScale1, Reached, reached}
+use Rattle.audit.specs.Reached.{ChangesOnlyAtScale1, Reached, reached}
 use Rattle.audit.specs.Claim.{LastCall, Claim, Demand3}
 use Rattle.audit.specs.Demand3.{route-claims}
 use Rattle.journey.specs.Journey.{journeyInto}

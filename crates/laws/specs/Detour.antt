@@ -1,4 +1,4 @@
--- Paths through portals against walks over a floor: a route exists exactly when a walk does, it is a walk, and it is longer than any walk by at most 2 * D for each border crossed.
+-- Paths through portals against walks over a floor: a route exists exactly when a walk does, it is a walk, and it is longer than any walk by at most 2 * D for each move over a border.
 -- Portals are numbers with a crossing cell and edges.
 use Prim.Native.Nat.{ℕ, suc, _+_, _*_, _≤_, _<_}
 use native.Mathlib.Nat.{zero-add, add-assoc}
@@ -8,12 +8,14 @@ use mathlib.Core.Path.{_≡_, refl, _∙_}
 use mathlib.Core.Logic.{_⊎_, inl, inr, _≢_, _↔_}
 use mathlib.Core.Bool.{Bool, true}
 use mathlib.Core.Option.{none, some}
-use mathlib.Core.List.{List}
-use Rattle.laws.specs.Floor.{Floor, Walk, stand, step, cross, Inside, move, inside-join, inside-walk, walk-inside, inside-alone, walk-starts}
+use mathlib.Core.List.{List, [], _∷_}
+use lib.ListN.{length}
+use Rattle.laws.specs.Floor.{Floor, BorderMove, Walk, stand, step, cross, SomeWalk, Inside, move, inside-join, inside-walk, walk-inside, inside-alone, walk-starts}
 use Rattle.laws.specs.Members.{In}
 use Rattle.laws.specs.Winner.{winner, winner-in, winner-least, winner-some}
 
--- What the move from x to y over a border has beside it: a portal on the near side and one on the far side that face each other. At most D moves inside the sector lead from x to the near one's crossing cell, and at most D from the far one's to y.
+-- What the move from x to y over a border has beside it: a portal on the near side and one on the far side that face each other.
+-- At most D moves inside the sector lead from x to the near one's crossing cell, and at most D from the far one's to y.
 pub record Gate (f : Floor) (D : ℕ) (Portal : ℕ → Type 0) (mid : ℕ → ℕ) (Faces : ℕ → ℕ → Type 0) (x y : ℕ) : Type 0 where
   pub near : ℕ
   pub far : ℕ
@@ -48,24 +50,24 @@ pub data Path {f : Floor} {D : ℕ} (g : Portals f D) : ℕ → ℕ → ℕ → 
 
 -- ---- a path is a walk
 module _ {f : Floor} {D : ℕ} (g : Portals f D) where
-  pub path-walk : {p q c y n k : ℕ} → Path g p q c → Walk f (g .mid q) y n k → (j : ℕ) × Walk f (g .mid p) y (c + n) j
-  path-walk {k = k} at w = (k, rw zero-add w)
+  pub path-walk : {p q c y n : ℕ} → Path g p q c → SomeWalk f (g .mid q) y n → SomeWalk f (g .mid p) y (c + n)
+  path-walk at w = (w .0, rw zero-add (w .1))
   path-walk {y = y} {n = n} (along {p} {q} {r} {w} {c} e a) b = go (g .edge-is p q w e) (path-walk a b)
     where
-      go : Inside f (g .mid p) (g .mid q) w ⊎ ((w ≡ 1) × f .Cross (g .mid p) (g .mid q)) → (j : ℕ) × Walk f (g .mid q) y (c + n) j → (j : ℕ) × Walk f (g .mid p) y (w + c + n) j
+      go : Inside f (g .mid p) (g .mid q) w ⊎ ((w ≡ 1) × f .Cross (g .mid p) (g .mid q)) → SomeWalk f (g .mid q) y (c + n) → SomeWalk f (g .mid p) y (w + c + n)
       go (inl i) t = (t .0, rw add-assoc (inside-walk i (t .1)))
       go (inr h) t =
           let same : w + c + n ≡ suc (c + n) = omega (arith, h .0) in
-          (suc (t .0), rw same (cross (h .1) (t .1)))
+          (record { from = g .mid p; to = g .mid q } ∷ t .0, rw same (cross (h .1) (t .1)))
 
   -- leg, path and last stretch, end to end
-  pub route-walk : {x p q y l c t : ℕ} → g .Portal q → Inside f x (g .mid p) l → Path g p q c → Inside f (g .mid q) y t → (k : ℕ) × Walk f x y (l + (c + t)) k
+  pub route-walk : {x p q y l c t : ℕ} → g .Portal q → Inside f x (g .mid p) l → Path g p q c → Inside f (g .mid q) y t → SomeWalk f x y (l + (c + t))
   route-walk {q = q} port leg path tail =
-      let rest = path-walk path (inside-alone tail (g .mid-open q port)) in
+      let rest = path-walk path ([], inside-alone tail (g .mid-open q port)) in
       (rest .0, inside-walk leg (rest .1))
 
 -- ---- a walk has a path beside it
--- For a walk of n moves and k crossings, of which the first comes after `before` moves: a start portal, an end portal and a path.
+-- For a walk of n moves, k of them over a border, of which the first comes after `before` moves: a start portal, an end portal and a path.
 pub record Beside {f : Floor} {D : ℕ} (g : Portals f D) (x y n k : ℕ) : Type 0 where
   pub first : ℕ
   pub last : ℕ
@@ -164,20 +166,20 @@ module _ {f : Floor} {D : ℕ} (g : Portals f D) where
             run-low = omega (arith, b .run-low, b .leg-low, w .from-low, j .1);
           }
 
-  pub walk-beside : {x y n k : ℕ} → Walk f x y n k → 0 < k → Beside g x y n k
+  pub walk-beside : {x y n : ℕ} {over : List BorderMove} → Walk f x y n over → 0 < length over → Beside g x y n (length over)
   walk-beside (stand o) h = absurd (omega arith)
   walk-beside (step s w) h = beside-step s (walk-beside w h)
-  walk-beside (cross {x} {y} {z} {n} {k} c w) h = go (ℕ-discrete k 0) (λ l. walk-beside w l)
+  walk-beside (cross {x} {y} {z} {n} {over} c w) h = go (ℕ-discrete (length over) 0) (λ l. walk-beside w l)
     where
-      go : Dec (k ≡ 0) → (0 < k → Beside g y z n k) → Beside g x z (suc n) (suc k)
+      go : Dec (length over ≡ 0) → (0 < length over → Beside g y z n (length over)) → Beside g x z (suc n) (suc (length over))
       go (yes e) more = rw e (beside-last c (walk-inside w e))
       go (no e) more = beside-cross c (more (omega arith))
 
 -- where no moves inside a sector join x and y, every walk leaves it
-pub walk-leaves : {f : Floor} {x y n k : ℕ} → ((m : ℕ) → ¬ Inside f x y m) → Walk f x y n k → 0 < k
-walk-leaves {n = n} {k} apart w = go (ℕ-discrete k 0)
+pub walk-leaves : {f : Floor} {x y n : ℕ} {over : List BorderMove} → ((m : ℕ) → ¬ Inside f x y m) → Walk f x y n over → 0 < length over
+walk-leaves {n = n} {over} apart w = go (ℕ-discrete (length over) 0)
   where
-    go : Dec (k ≡ 0) → 0 < k
+    go : Dec (length over ≡ 0) → 0 < length over
     go (yes e) = absurd (apart n (walk-inside w e))
     go (no e) = omega arith
 
@@ -220,20 +222,20 @@ pub record Chosen {f : Floor} {D : ℕ} (g : Portals f D) (c : Lengths g) (x y :
 
 -- What is promised of it.
 pub record Promise (f : Floor) (D x y : ℕ) (Given : ℕ → ℕ → Type 0) : Type 0 where
-  pub exactly-when : ((leg : ℕ) × (run : ℕ) × Given leg run) ↔ ((n : ℕ) × (k : ℕ) × Walk f x y n k)
-  pub is-a-walk : (leg run : ℕ) → Given leg run → (k : ℕ) × Walk f x y (leg + run) k
-  pub at-most : (leg run : ℕ) → Given leg run → (n k : ℕ) → Walk f x y n k → run + D ≤ n + 2 * D * k
+  pub exactly-when : ((leg : ℕ) × (run : ℕ) × Given leg run) ↔ ((n : ℕ) × SomeWalk f x y n)
+  pub is-a-walk : (leg run : ℕ) → Given leg run → SomeWalk f x y (leg + run)
+  pub at-most : (leg run : ℕ) → Given leg run → (n : ℕ) (over : List BorderMove) → Walk f x y n over → run + D ≤ n + 2 * D * length over
 
 module _ {f : Floor} {D : ℕ} (g : Portals f D) (c : Lengths g) where
   -- a pair is a walk
-  pub pair-walk : {x y p e : ℕ} → Pair g c x y p e → (k : ℕ) × Walk f x y (leg-of g c x p + run-of g c y p e) k
+  pub pair-walk : {x y p e : ℕ} → Pair g c x y p e → SomeWalk f x y (leg-of g c x p + run-of g c y p e)
   pair-walk {x} {y} {p} {e} w =
       route-walk g (w .end-is) (c .moves-least .attained x (g .mid p) (w .start-joined)) (c .cost-least .attained p e (w .pair-linked)) (c .moves-least .attained (g .mid e) y (w .end-joined))
 
   -- a walk that leaves the sector has a pair beside it, of low run, and of low leg and run together
-  pub walk-pair : {x y n k : ℕ} → Walk f x y n k → 0 < k
-      → (p : ℕ) × (e : ℕ) × Pair g c x y p e × (run-of g c y p e + D ≤ n + 2 * D * k) × (leg-of g c x p + run-of g c y p e ≤ n + 2 * D * k)
-  walk-pair {x} {y} {n} {k} w h =
+  pub walk-pair : {x y n : ℕ} {over : List BorderMove} → Walk f x y n over → 0 < length over
+      → (p : ℕ) × (e : ℕ) × Pair g c x y p e × (run-of g c y p e + D ≤ n + 2 * D * length over) × (leg-of g c x p + run-of g c y p e ≤ n + 2 * D * length over)
+  walk-pair {x} {y} w h =
       let b = walk-beside g w h in
       let p : ℕ = b .first in
       let e : ℕ = b .last in
@@ -254,12 +256,12 @@ module _ {f : Floor} {D : ℕ} (g : Portals f D) (c : Lengths g) where
   -- THE THEOREM: the choice keeps the promise
   pub promise : {x y : ℕ} {Given : ℕ → ℕ → Type 0} → ((m : ℕ) → ¬ Inside f x y m) → Chosen g c x y Given → Promise f D x y Given
   promise {x} {y} {Given} apart ch = record {
-    exactly-when = (λ a. let w = walks (a .0) (a .1) (a .2) in (a .0 + a .1, w .0, w .1), λ w. let p = walk-pair (w .2) (walk-leaves apart (w .2)) in ch .some (p .0) (p .1) (p .2));
+    exactly-when = (λ a. (a .0 + a .1, walks (a .0) (a .1) (a .2)), λ w. let p = walk-pair (w .1 .1) (walk-leaves apart (w .1 .1)) in ch .some (p .0) (p .1) (p .2));
     is-a-walk = walks;
-    at-most = λ leg run a n k w. let p = walk-pair w (walk-leaves apart w) in omega (arith, p .3, ch .is leg run a .5 (p .0) (p .1) (p .2));
+    at-most = λ leg run a n over w. let p = walk-pair w (walk-leaves apart w) in omega (arith, p .3, ch .is leg run a .5 (p .0) (p .1) (p .2));
   }
     where
-      walks : (leg run : ℕ) → Given leg run → (k : ℕ) × Walk f x y (leg + run) k
+      walks : (leg run : ℕ) → Given leg run → SomeWalk f x y (leg + run)
       walks leg run a =
           let h = ch .is leg run a in
           let w = pair-walk (h .2) in

@@ -1,5 +1,5 @@
 -- 01, "The hall account of demand 3", and the calls that it is fed.
-use Prim.Native.Nat.{ℕ, suc, _+_, _<_}
+use Prim.Native.Nat.{ℕ, suc, _<_}
 use mathlib.Core.Path.{_≡_}
 use mathlib.Core.Logic.{_⊎_}
 use mathlib.Core.Bool.{true, _&&_}
@@ -7,6 +7,8 @@ use mathlib.Core.List.{List, [], _∷_}
 use lib.Dec.{ltb, eqb}
 use lib.ListN.{length, set}
 use Rattle.laws.specs.Fold.{pick}
+use Rattle.laws.specs.Members.{In}
+use Rattle.laws.specs.Floor.{BorderMove}
 use Rattle.model.specs.declared.Measures.{Measures}
 use Rattle.model.specs.Costs.{openAt}
 use Rattle.model.specs.Sectors.{cells, sectorOf, across, down}
@@ -21,6 +23,9 @@ pub data Call : Type 0 where
 pub record Account : Type 0 where
   pub measures : Measures
   pub base : List ℕ
+
+abbrev pub opening : Measures → List ℕ → Account
+opening m base = record { measures = m; base = base }
 
 -- "At scale 1, a change whose floor number lies on the floor puts its cost there. No other change alters the account (by the premises it is refused), nor does any route call, whatever it answers"
 unfoldable pub fed : Account → Call → Account
@@ -47,14 +52,22 @@ abbrev pub Along : Measures → List ℕ → ℕ → List ℕ → ℕ → Type 0
 Along m costs x [] y = (x < cells m) × (openAt costs x ≡ true) × (x ≡ y)
 Along m costs x (z ∷ rest) y = (x < cells m) × (openAt costs x ≡ true) × ShareSide m x z × Along m costs z rest y
 
--- "k counts its moves into another sector, each time anew"
-unfoldable pub crossings : ℕ → List ℕ → ℕ
-crossings x [] = 0
-crossings x (z ∷ rest) = pick (eqb (sectorOf x) (sectorOf z)) 0 1 + crossings z rest
+-- "k counts its moves into another sector, each time anew": these moves, in order
+unfoldable pub borderMoves : ℕ → List ℕ → List BorderMove
+borderMoves x [] = []
+borderMoves x (z ∷ rest) = pick (eqb (sectorOf x) (sectorOf z)) (borderMoves z rest) (record { from = x; to = z } ∷ borderMoves z rest)
 
--- a walk of n moves and k crossings from x to y: "Its n moves are its cells less one"
-pub record Walk (a : Account) (x y n k : ℕ) : Type 0 where
+-- a walk from x to y of n moves, "its cells less one", which are these over a border, k in number; Allowed says which moves over a border a walk may make
+pub record WalkBy (Allowed : BorderMove → Type 0) (a : Account) (x y n : ℕ) (over : List BorderMove) : Type 0 where
   pub next : List ℕ
   pub goes : Along (a .measures) (accountCosts a) x next y
   pub moves : length next ≡ n
-  pub crossed : crossings x next ≡ k
+  pub crossed : borderMoves x next ≡ over
+  pub allowed : (b : BorderMove) → In b over → Allowed b
+
+-- between open cells it may make any
+abbrev pub AnyBorder : BorderMove → Type 0
+AnyBorder b = Unit
+
+abbrev pub Walk : Account → ℕ → ℕ → ℕ → List BorderMove → Type 0
+Walk a x y n over = WalkBy AnyBorder a x y n over

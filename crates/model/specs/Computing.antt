@@ -24,12 +24,12 @@ use Rattle.model.specs.Portals.{isPortal, midpoint, midCell, facing, hea
 use Rattle.model.specs.Change.{nearby, isThere, forNearby, resetSector, rescaled, isNearby, remarked, changed, exceedsAt, exceeds}
 use Rattle.model.specs.LeastPath.{nodeRank, keysTo, leastPath}
 use Rattle.model.specs.Route.{starts, ends, endOf, linkedPair, runOf, routePairs, chosenPair, stepAt, stepsOf, throughPair, throughPortals, oneStep, routeOf}
-use Rattle.model.specs.Account.{fed, accountAfter, accountCosts, crossings}
+use Rattle.model.specs.Account.{fed, accountAfter, accountCosts, borderMoves}
 use Rattle.model.specs.Store.{u16At, marksIn, decode, markBytes, encode, written, putEntry, baseIn}
 use Rattle.model.specs.Accepted.{badSectors, badScale}
 use Rattle.model.specs.Calls.{orElse, ifAccepted, measured, valueNumber, measureNumber, planNumber, planAnswer, entryOff, readNumber, readAnswer, readInto, buildNumber, built, buildInto, badMark, checkNumber, alterNumber, changeNumber, changeInto, stepList, foundNumber, routeNumber, routed, routeAnswer, routeSteps, routeFlat, windowsFrom, flatWindows, windowsNumber, listed, windowsAnswer, windowsFlat, storeAfterCall, storeAfter}
 use Rattle.model.specs.Listing.{digits, windowText, stepText, stepsText, answerText, pairText, pairLines, fileSize, hallLines, fileLines, hallroute}
 
 unfoldable pub computing : Unit {0}
-unfolding mul div lt le ofBits run bit first any passing refuse region within tabulate offers relaxed swept total sweeps outset least-costs tight better closer next path flatMap pairs beat winner beside openAt across down beyond hasBeyond flatSteps stepsIn landing onFloor cutDown roundUp isWall passes blockStep blockPassed walk scaleCell scaleSector scaleFloor move moves movesTo joined borderCells openPlace bits markOf marksOf isOpen begins begun windowCount firstPlace lastPlace crossing windowAt sideWindows isPortal midpoint midCell facing headOf outerEdge innerEdge edgeAt edgesFrom edgesOf edges portalGraph nearby isThere forNearby resetSector rescaled isNearby remarked changed exceedsAt exceeds nodeRank keysTo leastPath starts ends endOf linkedPair runOf routePairs chosenPair stepAt stepsOf throughPair throughPortals oneStep routeOf fed accountAfter accountCosts crossings u16At marksIn decode markBytes encode written putEntry baseIn badSectors badScale orElse ifAccepted measured valueNumber measureNumber planNumber planAnswer entryOff readNumber readAnswer readInto buildNumber built buildInto badMark checkNumber alterNumber changeNumber changeInto stepList foundNumber routeNumber routed routeAnswer routeSteps routeFlat windowsFrom flatWindows windowsNumber listed windowsAnswer windowsFlat storeAfterCall storeAfter digits windowText stepText stepsText answerText pairText pairLines fileSize hallLines fileLines hallroute
+unfolding mul div lt le ofBits run bit first any passing refuse region within tabulate offers relaxed swept total sweeps outset least-costs tight better closer next path flatMap pairs beat winner beside openAt across down beyond hasBeyond flatSteps stepsIn landing onFloor cutDown roundUp isWall passes blockStep blockPassed walk scaleCell scaleSector scaleFloor move moves movesTo joined borderCells openPlace bits markOf marksOf isOpen begins begun windowCount firstPlace lastPlace crossing windowAt sideWindows isPortal midpoint midCell facing headOf outerEdge innerEdge edgeAt edgesFrom edgesOf edges portalGraph nearby isThere forNearby resetSector rescaled isNearby remarked changed exceedsAt exceeds nodeRank keysTo leastPath starts ends endOf linkedPair runOf routePairs chosenPair stepAt stepsOf throughPair throughPortals oneStep routeOf fed accountAfter accountCosts borderMoves u16At marksIn decode markBytes encode written putEntry baseIn badSectors badScale orElse ifAccepted measured valueNumber measureNumber planNumber planAnswer entryOff readNumber readAnswer readInto buildNumber built buildInto badMark checkNumber alterNumber changeNumber changeInto stepList foundNumber routeNumber routed routeAnswer routeSteps routeFlat windowsFrom flatWindows windowsNumber listed windowsAnswer windowsFlat storeAfterCall storeAfter digits windowText stepText stepsText answerText pairText pairLines fileSize hallLines fileLines hallroute
 computing = tt
