@@ -14,11 +14,14 @@ pub fn sectors(m: Measures) -> usize
     wide(m.columns) * wide(m.rows)
 }
 
+// The cells of a sector.
+pub const SECTOR_CELLS: usize = 100;
+
 // How many cells a hall has.
 pub fn cells(m: Measures) -> usize
     ensures { λ r. ⌜ r ≡ cells m ⌝ }
 {
-    sectors(m) * 100
+    sectors(m) * SECTOR_CELLS
 }
 
 // The sector beyond a side.

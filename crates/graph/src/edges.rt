@@ -3,34 +3,41 @@ ghost use mathlib.Core.Path.{_≡_};
 ghost use Prim.Native.Nat.{_+_, _*_, _/_, _%_, _≤_, _<_};
 ghost use lib.ListN.{length, getD};
 ghost use Rattle.model.specs.Sectors.{sectors, costsOf};
-ghost use Rattle.model.specs.Portals.{outerEdge};
+ghost use Rattle.model.specs.Portals.{sectorPortals, sectorArcs, portalCount, arcCount, portalSector, portalPlace, outerEdge};
 ghost use Rattle.model.specs.Store.{decode};
 ghost use Rattle.moves.specs.Levels.{openWords, movesIn};
 ghost use Rattle.graph.specs.EdgeTable.{Opened, Filled, Row, edgeTable};
 ghost use Rattle.graph.specs.Near.{sectorMids};
 ghost use Rattle.graph.specs.Weights.{edgeBy};
+use crate::keys::KEY_STEP;
+use crate::near::NO_CROSSING;
 use crate::near::moves_from;
 use crate::near::near_by;
 use crate::near::sector_mids;
 use crate::near::sector_words;
+use crate::portals::SECTOR_PORTALS;
 use crate::portals::facing;
 use crate::portals::is_portal;
-use fields::cells::side_at;
+use crate::portals::portal_side;
 use fields::numbers::wide;
+use fields::sectors::SECTOR_CELLS;
 use fields::sectors::has_beyond;
 use fields::sectors::sectors;
 use model::Measures;
 
+// The key of an edge of weight 1.
+const FACING_KEY: u32 = KEY_STEP + 1;
+
 // A portal's edge to the facing one, or 0.
 fn outer_edge(st: &[u8], m: Measures, p: usize) -> u32
-    requires { ⌜ Opened m (now st) × (p < sectors m * 20) ⌝ }
+    requires { ⌜ Opened m (now st) × (p < portalCount m) ⌝ }
     ensures { λ r. ⌜ r ≡ outerEdge (decode (now (st .entry))) p ⌝ }
 {
-    if !has_beyond(m, p / 20, side_at(p % 20 / 5)) {
+    if !has_beyond(m, p / SECTOR_PORTALS, portal_side(p)) {
         return 0;
     }
     if is_portal(st, m, facing(m, p)) {
-        return 4097;
+        return FACING_KEY;
     }
     0
 }
@@ -47,29 +54,29 @@ fn edge_at(levels: &[u64], n: usize, mid: u8, outer: u32, own: usize, c: usize) 
     if moves == 255 {
         return 0;
     }
-    4096 * (moves as u32) + 1
+    KEY_STEP * (moves as u32) + 1
 }
 
 // The 20 places of portal p, by the levels of the moves from its midpoint and the midpoints of its sector.
 fn fill_places(p: usize, levels: &[u64], n: usize, mids: &[u8], outer: u32, table: &mut [u32])
-    requires { ⌜ (length (now levels) ≡ 202) × (n ≤ 101) × (length (now mids) ≡ 20) × (p < 2000) × (p * 20 + 20 ≤ length (now table)) ⌝ }
-    ensures { λ _. ⌜ Row (λ c. edgeBy (movesIn (now (levels .entry)) n) (getD (now (mids .entry)) c 0) outer (p % 20) c) p 20 (now (table .entry)) (now (table .exit)) ⌝ }
+    requires { ⌜ (length (now levels) ≡ 202) × (n ≤ 101) × (length (now mids) ≡ sectorPortals) × (p < 2000) × (p * sectorPortals + sectorPortals ≤ length (now table)) ⌝ }
+    ensures { λ _. ⌜ Row (λ c. edgeBy (movesIn (now (levels .entry)) n) (getD (now (mids .entry)) c 0) outer (portalPlace p) c) p sectorPortals (now (table .entry)) (now (table .exit)) ⌝ }
 {
     let mut c = 0;
-    while c < 20 {
-        table[p * 20 + c] = edge_at(levels, n, mids[c], outer, p % 20, c);
+    while c < SECTOR_PORTALS {
+        table[p * SECTOR_PORTALS + c] = edge_at(levels, n, mids[c], outer, p % SECTOR_PORTALS, c);
         c += 1;
     }
 }
 
 // The 20 places of number p, which is no portal's.
 fn clear_places(p: usize, table: &mut [u32])
-    requires { ⌜ (p < 2000) × (p * 20 + 20 ≤ length (now table)) ⌝ }
-    ensures { λ _. ⌜ Row (λ c. 0) p 20 (now (table .entry)) (now (table .exit)) ⌝ }
+    requires { ⌜ (p < 2000) × (p * sectorPortals + sectorPortals ≤ length (now table)) ⌝ }
+    ensures { λ _. ⌜ Row (λ c. 0) p sectorPortals (now (table .entry)) (now (table .exit)) ⌝ }
 {
     let mut c = 0;
-    while c < 20 {
-        table[p * 20 + c] = 0;
+    while c < SECTOR_PORTALS {
+        table[p * SECTOR_PORTALS + c] = 0;
         c += 1;
     }
 }
@@ -84,40 +91,40 @@ fn fill_number(
     levels: &mut [u64],
     table: &mut [u32],
 )
-    requires { ⌜ Opened m (now st) × (p < sectors m * 20) × (now mids ≡ sectorMids (decode (now st)) (p / 20)) × Filled (decode (now st)) (p * 20) (now table) ⌝ }
-    requires { ⌜ (now words ≡ openWords (costsOf (decode (now st) .scaled) (p / 20))) × (length (now levels) ≡ 202) ⌝ }
-    ensures { λ _. ⌜ Filled (decode (now (st .entry))) (p * 20 + 20) (now (table .exit)) ⌝ }
+    requires { ⌜ Opened m (now st) × (p < portalCount m) × (now mids ≡ sectorMids (decode (now st)) (portalSector p)) × Filled (decode (now st)) (p * sectorPortals) (now table) ⌝ }
+    requires { ⌜ (now words ≡ openWords (costsOf (decode (now st) .scaled) (portalSector p))) × (length (now levels) ≡ 202) ⌝ }
+    ensures { λ _. ⌜ Filled (decode (now (st .entry))) (p * sectorPortals + sectorPortals) (now (table .exit)) ⌝ }
 {
-    let mid = mids[p % 20];
-    if 100 <= mid {
+    let mid = mids[p % SECTOR_PORTALS];
+    if NO_CROSSING <= mid {
         clear_places(p, table);
         return;
     }
-    let n = moves_from(st, m, p / 20 * 100 + wide(mid), words, levels);
+    let n = moves_from(st, m, p / SECTOR_PORTALS * SECTOR_CELLS + wide(mid), words, levels);
     let outer = outer_edge(st, m, p);
     fill_places(p, levels, n, mids, outer, table);
 }
 
 // The edges of the 20 numbers of sector s.
 fn fill_sector(st: &[u8], m: Measures, s: usize, table: &mut [u32])
-    requires { ⌜ Opened m (now st) × (s < sectors m) × Filled (decode (now st)) (s * 400) (now table) ⌝ }
-    ensures { λ _. ⌜ Filled (decode (now (st .entry))) (s * 400 + 400) (now (table .exit)) ⌝ }
+    requires { ⌜ Opened m (now st) × (s < sectors m) × Filled (decode (now st)) (s * sectorArcs) (now table) ⌝ }
+    ensures { λ _. ⌜ Filled (decode (now (st .entry))) (s * sectorArcs + sectorArcs) (now (table .exit)) ⌝ }
 {
-    let mut mids: [u8; 20] = [100; 20];
+    let mut mids: [u8; SECTOR_PORTALS] = [NO_CROSSING; SECTOR_PORTALS];
     let mut words: [u64; 2] = [0; 2];
     let mut levels: [u64; 202] = [0; 202];
     sector_mids(st, m, s, &mut mids);
     sector_words(st, m, s, &mut words);
     let mut c = 0;
-    while c < 20 {
-        fill_number(st, m, s * 20 + c, &mids, &words, &mut levels, table);
+    while c < SECTOR_PORTALS {
+        fill_number(st, m, s * SECTOR_PORTALS + c, &mids, &words, &mut levels, table);
         c += 1;
     }
 }
 
 // The weights of a hall's portal graph.
 pub fn fill_edges(st: &[u8], m: Measures, table: &mut [u32])
-    requires { ⌜ Opened m (now st) × (length (now table) ≡ sectors m * 400) ⌝ }
+    requires { ⌜ Opened m (now st) × (length (now table) ≡ arcCount m) ⌝ }
     ensures { λ _. ⌜ now (table .exit) ≡ edgeTable (decode (now (st .entry))) ⌝ }
 {
     let n = sectors(m);

@@ -5,21 +5,21 @@ ghost use mathlib.Core.List.{List, _++_};
 ghost use Prim.Native.Nat.{ℕ, _*_, _/_, _≤_, _<_};
 ghost use lib.ListN.{length, getD, drop};
 ghost use Rattle.laws.specs.FirstPath.{better, closer, next};
-ghost use Rattle.model.specs.Sectors.{sectors};
 ghost use Rattle.model.specs.Windows.{borderCell};
-ghost use Rattle.model.specs.Portals.{isPortal, portalGraph};
-ghost use Rattle.model.specs.LeastPath.{cellRank, nodeRank, keysTo, leastPath};
+ghost use Rattle.model.specs.Portals.{portalCount, arcCount, arcTail, isPortal, portalGraph};
+ghost use Rattle.model.specs.LeastPath.{unlinked, cellRank, nodeRank, keysTo, leastPath};
 ghost use Rattle.model.specs.Store.{decode};
 ghost use Rattle.graph.specs.EdgeTable.{Opened, tableGraph};
 ghost use Rattle.graph.specs.Following.{Linked, Best};
+use crate::portals::SECTOR_PORTALS;
 use crate::portals::head_of;
-use crate::portals::mark_of;
-use fields::cells::side_at;
+use crate::portals::portal_run;
+use crate::portals::portal_side;
 use fields::cells::side_number;
+use fields::sectors::SECTOR_CELLS;
 use fields::sectors::sectors;
 use model::Measures;
 use model::Side;
-use portal::runs::window_at;
 
 // The rank of the cell at a place of a side: by column, then row.
 fn border_rank(side: Side, place: usize) -> usize
@@ -39,11 +39,11 @@ fn node_rank(st: &[u8], m: Measures, p: usize) -> usize
     requires { ⌜ Opened m (now st) × (isPortal (decode (now st)) p ≡ true) ⌝ }
     ensures { λ r. ⌜ r ≡ nodeRank (decode (now (st .entry))) p ⌝ }
 {
-    let side = side_at(p % 20 / 5);
-    let run = window_at(mark_of(st, m, p), p % 5);
+    let side = portal_side(p);
+    let run = portal_run(st, m, p);
     let first = border_rank(side, run.first);
     let last = border_rank(side, run.last);
-    ((p / 20 * 100 + first) * 100 + last) * 4 + side_number(side)
+    ((p / SECTOR_PORTALS * SECTOR_CELLS + first) * SECTOR_CELLS + last) * 4 + side_number(side)
 }
 
 // Whether portal v comes before the best so far; the number of all portals says that there is none yet.
@@ -51,7 +51,7 @@ fn better(st: &[u8], m: Measures, v: usize, best: usize) -> bool
     requires { ⌜ Opened m (now st) × (isPortal (decode (now st)) v ≡ true) × Best m (now st) best ⌝ }
     ensures { λ r. ⌜ ((table : List ℕ) → r ≡ better (tableGraph m table) (nodeRank (decode (now (st .entry)))) v best) ⌝ }
 {
-    if best == sectors(m) * 20 {
+    if best == sectors(m) * SECTOR_PORTALS {
         return true;
     }
     node_rank(st, m, v) < node_rank(st, m, best)
@@ -67,7 +67,7 @@ fn closer(
     a: usize,
     best: usize,
 ) -> usize
-    requires { ⌜ Linked m (now st) (now table) (length (now keys)) × (a < sectors m * 400) × (u ≡ a / 20) × Best m (now st) best ⌝ }
+    requires { ⌜ Linked m (now st) (now table) (length (now keys)) × (a < arcCount m) × (u ≡ arcTail a) × Best m (now st) best ⌝ }
     ensures is { λ r. ⌜ r ≡ closer (tableGraph m (now (table .entry))) (nodeRank (decode (now (st .entry)))) (now (keys .entry)) u a best ⌝ }
     ensures some { λ r. ⌜ Best m (now (st .entry)) r ⌝ }
 {
@@ -79,7 +79,7 @@ fn closer(
     if key < w {
         return best;
     }
-    let v = head_of(m, u, a % 20);
+    let v = head_of(m, u, a % SECTOR_PORTALS);
     if key - w != keys[v] {
         return best;
     }
@@ -91,12 +91,12 @@ fn closer(
 
 // The portal after u on the least path.
 fn next_portal(st: &[u8], m: Measures, table: &[u32], keys: &[u32], u: usize) -> usize
-    requires { ⌜ Linked m (now st) (now table) (length (now keys)) × (u < sectors m * 20) ⌝ }
-    ensures { λ r. ⌜ r ≡ next (tableGraph m (now (table .entry))) (nodeRank (decode (now (st .entry)))) (now (keys .entry)) u (sectors m * 400) ⌝ }
+    requires { ⌜ Linked m (now st) (now table) (length (now keys)) × (u < portalCount m) ⌝ }
+    ensures { λ r. ⌜ r ≡ next (tableGraph m (now (table .entry))) (nodeRank (decode (now (st .entry)))) (now (keys .entry)) u (arcCount m) ⌝ }
 {
-    let mut best = sectors(m) * 20;
-    let mut a = u * 20;
-    let end = a + 20;
+    let mut best = sectors(m) * SECTOR_PORTALS;
+    let mut a = u * SECTOR_PORTALS;
+    let end = a + SECTOR_PORTALS;
     while a < end {
         best = closer(st, m, table, keys, u, a, best);
         a += 1;
@@ -113,8 +113,8 @@ pub fn least_path(
     p: usize,
     nodes: &mut [u16],
 ) -> usize
-    requires { ⌜ Linked m (now st) (now table) (length (now keys)) × (p < sectors m * 20) × (getD (now keys) p 0 < 4294967295) × (sectors m * 20 ≤ length (now nodes)) ⌝ }
-    requires { ⌜ ((e : ℕ) × (e < sectors m * 20) × (now keys ≡ keysTo (portalGraph (decode (now st))) e)) ⌝ }
+    requires { ⌜ Linked m (now st) (now table) (length (now keys)) × (p < portalCount m) × (getD (now keys) p 0 < unlinked) × (portalCount m ≤ length (now nodes)) ⌝ }
+    requires { ⌜ ((e : ℕ) × (e < portalCount m) × (now keys ≡ keysTo (portalGraph (decode (now st))) e)) ⌝ }
     ensures count { λ r. ⌜ r ≡ length (leastPath (decode (now (st .entry))) (portalGraph (decode (now (st .entry)))) (now (keys .entry)) p) ⌝ }
     ensures portals { λ r. ⌜ now (nodes .exit) ≡ leastPath (decode (now (st .entry))) (portalGraph (decode (now (st .entry)))) (now (keys .entry)) p ++ drop r (now (nodes .entry)) ⌝ }
 {

@@ -2,10 +2,11 @@
 ghost use mathlib.Core.Path.{_≡_};
 ghost use mathlib.Core.Bool.{true};
 ghost use Prim.Native.Nat.{_*_, _/_, _≤_, _<_};
-ghost use Rattle.model.specs.Sectors.{sectors};
-ghost use Rattle.model.specs.Portals.{portalMark, isPortal, midpoint, facing, headOf};
+ghost use Rattle.model.specs.Sectors.{sectorCells, sectors};
+ghost use Rattle.model.specs.Portals.{sectorPortals, portalSector, portalSide, portalWindow, portalMark, isPortal, windowOf, midpoint, facing, headOf};
 ghost use Rattle.model.specs.Store.{decode};
 ghost use Rattle.graph.specs.EdgeTable.{Opened, bare};
+ghost use Rattle.graph.specs.Reading.{Places};
 use fields::cells::opposite;
 use fields::cells::side_at;
 use fields::cells::side_number;
@@ -14,14 +15,29 @@ use fields::sectors::beyond;
 use fields::sectors::cells;
 use fields::sectors::sectors;
 use model::Measures;
+use model::PortalWindow;
+use model::Side;
 use portal::border::border_index;
+use portal::listing::window_of;
 use portal::runs::window_at;
 use portal::runs::window_count;
+use portal::runs::OpenRun;
 use store::bytes::u16_at;
 
-// The mark of the side that a portal stands on.
+// How many numbers for portals a side and a sector have, and how many arcs a sector: as many for each of its numbers.
+pub const SIDE_PORTALS: usize = 5;
+pub const SECTOR_PORTALS: usize = 20;
+pub const SECTOR_ARCS: usize = SECTOR_PORTALS * SECTOR_PORTALS;
+
+// The side that a portal stands on, and the mark of that side.
+pub fn portal_side(p: usize) -> Side
+    ensures { λ r. ⌜ r ≡ portalSide p ⌝ }
+{
+    side_at(p % SECTOR_PORTALS / SIDE_PORTALS)
+}
+
 pub fn mark_of(st: &[u8], m: Measures, p: usize) -> u16
-    requires { ⌜ Opened m (now st) × (p / 20 < sectors m) ⌝ }
+    requires { ⌜ Opened m (now st) × (portalSector p < sectors m) ⌝ }
     ensures { λ r. ⌜ (r ≡ portalMark (decode (now (st .entry))) p) × (r ≤ 1023) ⌝ }
 {
     u16_at(st, 4 + 2 * cells(m) + 2 * (p / 5)) as u16
@@ -32,19 +48,34 @@ pub fn is_portal(st: &[u8], m: Measures, p: usize) -> bool
     requires { ⌜ Opened m (now st) ⌝ }
     ensures { λ r. ⌜ r ≡ isPortal (decode (now (st .entry))) p ⌝ }
 {
-    if sectors(m) <= p / 20 {
+    if sectors(m) <= p / SECTOR_PORTALS {
         return false;
     }
-    p % 5 < window_count(mark_of(st, m, p))
+    p % SIDE_PORTALS < window_count(mark_of(st, m, p))
 }
 
-// The index of a portal's midpoint.
+// The window of a portal: its first and last place, and its cells.
+pub fn portal_run(st: &[u8], m: Measures, p: usize) -> OpenRun
+    requires { ⌜ Opened m (now st) × (isPortal (decode (now st)) p ≡ true) ⌝ }
+    ensures { λ r. ⌜ Places (portalMark (decode (now (st .entry))) p) (portalWindow p) r ⌝ }
+{
+    window_at(mark_of(st, m, p), p % SIDE_PORTALS)
+}
+
+pub fn window_of_portal(st: &[u8], m: Measures, p: usize) -> PortalWindow
+    requires { ⌜ Opened m (now st) × (isPortal (decode (now st)) p ≡ true) ⌝ }
+    ensures { λ r. ⌜ r ≡ windowOf (decode (now (st .entry))) p ⌝ }
+{
+    window_of(portal_side(p), mark_of(st, m, p), p % SIDE_PORTALS)
+}
+
+// The crossing of a portal: the index of its midpoint.
 pub fn midpoint(st: &[u8], m: Measures, p: usize) -> usize
     requires { ⌜ Opened m (now st) × (isPortal (decode (now st)) p ≡ true) ⌝ }
-    ensures { λ r. ⌜ (r ≡ midpoint (decode (now (st .entry))) p) × (r < 100) ⌝ }
+    ensures { λ r. ⌜ (r ≡ midpoint (decode (now (st .entry))) p) × (r < sectorCells) ⌝ }
 {
-    let run = window_at(mark_of(st, m, p), p % 5);
-    wide(border_index(side_at(p % 20 / 5), (run.first + run.last) / 2))
+    let run = portal_run(st, m, p);
+    wide(border_index(portal_side(p), (run.first + run.last) / 2))
 }
 
 // The portal of the same number on the facing side.
@@ -52,17 +83,17 @@ pub fn facing(m: Measures, p: usize) -> usize
     requires { ⌜ (m .rows ≤ 10) × (p < 2000) ⌝ }
     ensures { λ r. ⌜ r ≡ facing (bare m) p ⌝ }
 {
-    let side = side_at(p % 20 / 5);
-    beyond(m, p / 20, side) * 20 + side_number(opposite(side)) * 5 + p % 5
+    let side = portal_side(p);
+    beyond(m, p / SECTOR_PORTALS, side) * SECTOR_PORTALS + side_number(opposite(side)) * SIDE_PORTALS + p % SIDE_PORTALS
 }
 
 // The portal to which place c of portal p leads.
 pub fn head_of(m: Measures, p: usize, c: usize) -> usize
-    requires { ⌜ (m .rows ≤ 10) × (p < 2000) × (c < 20) ⌝ }
+    requires { ⌜ (m .rows ≤ 10) × (p < 2000) × (c < sectorPortals) ⌝ }
     ensures { λ r. ⌜ r ≡ headOf (bare m) p c ⌝ }
 {
-    if c == p % 20 {
+    if c == p % SECTOR_PORTALS {
         return facing(m, p);
     }
-    p / 20 * 20 + c
+    p / SECTOR_PORTALS * SECTOR_PORTALS + c
 }

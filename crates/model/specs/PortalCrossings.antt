@@ -6,7 +6,7 @@ use mathlib.Core.Bool.{true}
 use lib.ListN.{getD}
 use Rattle.model.specs.declared.Side.{Side}
 use Rattle.model.specs.CellSides.{border-low}
-use Rattle.model.specs.Sectors.{sectors, sectorOf, placeOf, floorNumber}
+use Rattle.model.specs.Sectors.{sectorCells, sectors, sectorOf, placeOf, floorNumber}
 use Rattle.model.specs.Moves.{movesTo}
 use Rattle.model.specs.Windows.{border, crossing}
 use Rattle.model.specs.WindowRuns.{Run, window-run, crossing-in}
@@ -30,7 +30,7 @@ module _ (h : Hall) (fits : Fits h) (p : ℕ) (is : isPortal h p ≡ true) where
   portal-run = window-run (portalMark h p) (fits .marked (portalSector p) (portalSide p)) (portalWindow p) (portal-is h p is .among)
 
   -- its crossing
-  pub mid-low : midpoint h p < 100
+  pub mid-low : midpoint h p < sectorCells
   unfolding midpoint
   mid-low = border-low (portalSide p) (crossingOf h p) (omega (arith, crossing-in portal-run .1, portal-run .inside))
 

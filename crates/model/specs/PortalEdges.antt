@@ -16,12 +16,12 @@ use Rattle.laws.specs.Graph.{Sound, BothWays}
 use Rattle.model.specs.declared.Side.{Side}
 use Rattle.model.specs.Cells.{opposite}
 use Rattle.model.specs.Sides.{opposite-is}
-use Rattle.model.specs.Sectors.{sectors, hasBeyond, beyond}
+use Rattle.model.specs.Sectors.{hasBeyond, beyond}
 use Rattle.model.specs.SectorSides.{lies-beyond}
 use Rattle.model.specs.Moves.{apart, movesTo, joined}
 use Rattle.model.specs.MovesFewest.{joined-is, is-joined, joined-back}
 use Rattle.model.specs.Halls.{Hall}
-use Rattle.model.specs.Portals.{sidePortals, sectorPortals, portalAt, portalSector, portalSide, portalWindow, portalPlace, placePortal, isPortal, midpoint, midCell, movesFrom, facing, headOf, keyStep, key, outerEdge, innerEdge, edgeAt, edgesFrom, edgesOf, edges, arcTail, arcPlace, arcAt, portalGraph}
+use Rattle.model.specs.Portals.{sidePortals, sectorPortals, portalCount, portalAt, portalSector, portalSide, portalWindow, portalPlace, placePortal, isPortal, midpoint, midCell, movesFrom, facing, headOf, keyStep, key, outerEdge, innerEdge, edgeAt, edgesFrom, edgesOf, edges, arcTail, arcPlace, arcAt, portalGraph}
 use Rattle.model.specs.PortalNumbers.{numbered, number-is, portal-is, portal-low}
 use Rattle.model.specs.PortalCrossings.{Fits, mid-sector, moves-between}
 
@@ -74,7 +74,7 @@ edges-at h p c l = go (isPortal h p)
 pub weight-at : (h : Hall) (e : ℕ) → e < portalGraph h .arcs → portalGraph h .weight e ≡ pick (isPortal h (arcTail e)) (edgeAt h (arcTail e) (movesFrom h (arcTail e)) (arcPlace e)) 0
 unfolding portalGraph edges
 weight-at h e l =
-    ap (λ (row : List ℕ). getD row (arcPlace e) 0) (tabulate-at (edgesOf h) (sectors (h .measures) * sectorPortals) (arcTail e) [] (omega arith))
+    ap (λ (row : List ℕ). getD row (arcPlace e) 0) (tabulate-at (edgesOf h) (portalCount (h .measures)) (arcTail e) [] (omega arith))
     ∙ edges-at h (arcTail e) (arcPlace e) (omega arith)
 
 picked : (t : Bool) (w : ℕ) → 0 < pick t w 0 → (t ≡ true) × (pick t w 0 ≡ w)

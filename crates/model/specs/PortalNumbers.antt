@@ -12,7 +12,7 @@ use Rattle.model.specs.Sides.{side-number, side-low, number-side}
 use Rattle.model.specs.Sectors.{sectors}
 use Rattle.model.specs.Windows.{windowCount}
 use Rattle.model.specs.Halls.{Hall, markAt}
-use Rattle.model.specs.Portals.{sidePortals, sectorPortals, portalAt, portalSector, portalSide, portalWindow, portalMark, isPortal}
+use Rattle.model.specs.Portals.{sidePortals, sectorPortals, portalCount, portalAt, portalSector, portalSide, portalWindow, portalMark, isPortal}
 
 -- what a number made of sector, side and window says of them
 pub record Numbered (s : ℕ) (side : Side) (j p : ℕ) : Type 0 where
@@ -49,7 +49,7 @@ module _ (h : Hall) (p : ℕ) where
   unfolding isPortal
   is-portal t = rw (lt-ltb (portalSector p) (sectors (h .measures)) (t .inside), lt-ltb (portalWindow p) (windowCount (portalMark h p)) (t .among))
 
-  pub portal-low : isPortal h p ≡ true → p < sectors (h .measures) * sectorPortals
+  pub portal-low : isPortal h p ≡ true → p < portalCount (h .measures)
   portal-low e = omega (arith, portal-is e .inside)
 
 -- window j of a side is a portal

@@ -7,6 +7,7 @@ use lib.ListN.{getD, replicate}
 use Rattle.laws.specs.Fold.{pick}
 use Rattle.laws.specs.Table.{tabulate}
 use Rattle.laws.specs.Graph.{Graph}
+use Rattle.model.specs.declared.Measures.{Measures}
 use Rattle.model.specs.declared.PortalWindow.{PortalWindow}
 use Rattle.model.specs.declared.Side.{Side}
 use Rattle.model.specs.Cells.{sideNumber, sideAt, opposite}
@@ -24,6 +25,13 @@ sectorPortals = 20
 
 abbrev pub sectorArcs : ℕ
 sectorArcs = 400
+
+-- and those of a hall
+abbrev pub portalCount : Measures → ℕ
+portalCount m = sectors m * sectorPortals
+
+abbrev pub arcCount : Measures → ℕ
+arcCount m = sectors m * sectorArcs
 
 -- "A portal is a sector and a window": the number from sector, side and window
 abbrev pub portalAt : ℕ → Side → ℕ → ℕ
@@ -105,7 +113,7 @@ edgesOf h p = pick (isPortal h p) (edgesFrom h p (movesFrom h p)) (replicate sec
 
 -- the edges of all portals
 unfoldable pub edges : Hall → List (List ℕ)
-edges h = tabulate (edgesOf h) (sectors (h .measures) * sectorPortals) 0
+edges h = tabulate (edgesOf h) (portalCount (h .measures)) 0
 
 -- arc e is place e % 20 of portal e / 20
 abbrev pub arcTail : ℕ → ℕ
@@ -120,8 +128,8 @@ arcAt p c = p * sectorPortals + c
 -- the portal graph
 abbrev pub graphOf : Hall → List (List ℕ) → Graph
 graphOf h table = record {
-  nodes = sectors (h .measures) * sectorPortals;
-  arcs = sectors (h .measures) * sectorArcs;
+  nodes = portalCount (h .measures);
+  arcs = arcCount (h .measures);
   tail = arcTail;
   head = λ e. headOf h (arcTail e) (arcPlace e);
   weight = λ e. getD (getD table (arcTail e) []) (arcPlace e) 0;

@@ -10,11 +10,14 @@ use Rattle.model.specs.declared.Side.{Side}
 use Rattle.model.specs.declared.Side.the-variants.{North, East, South, West}
 
 -- a hall has columns × rows sectors of 100 cells
+abbrev pub sectorCells : ℕ
+sectorCells = 100
+
 abbrev pub sectors : Measures → ℕ
 sectors m = m .columns * m .rows
 
 abbrev pub cells : Measures → ℕ
-cells m = sectors m * 100
+cells m = sectors m * sectorCells
 
 -- "Sector number = column × rows + row", and back
 abbrev pub sectorNumber : Measures → ℕ → ℕ → ℕ
@@ -31,17 +34,17 @@ sectorAt m s = record { column = columnOf m s; row = rowOf m s }
 
 -- "floor number = sector number × 100 + index", and back
 abbrev pub floorNumber : ℕ → ℕ → ℕ
-floorNumber s i = s * 100 + i
+floorNumber s i = s * sectorCells + i
 
 abbrev pub sectorOf : ℕ → ℕ
-sectorOf n = n / 100
+sectorOf n = n / sectorCells
 
 abbrev pub placeOf : ℕ → ℕ
-placeOf n = n % 100
+placeOf n = n % sectorCells
 
 -- the 100 costs of a sector, out of the costs of a floor
 abbrev pub costsOf : List ℕ → ℕ → List ℕ
-costsOf costs s = region (s * 100) 100 costs
+costsOf costs s = region (s * sectorCells) sectorCells costs
 
 -- column and row of a cell on the plain floor
 unfoldable pub across : Measures → ℕ → ℕ

@@ -4,41 +4,47 @@ ghost use Prim.Native.Nat.{_+_, _*_, _≤_};
 ghost use lib.ListN.{length};
 ghost use Rattle.laws.specs.Graph.{BothWays};
 ghost use Rattle.laws.specs.First.{Foremost};
-ghost use Rattle.model.specs.Sectors.{sectors};
+ghost use Rattle.model.specs.Portals.{sectorPortals, portalCount};
 ghost use Rattle.model.specs.LeastPath.{unlinked};
 ghost use Rattle.graph.specs.EdgeTable.{tableGraph};
 ghost use Rattle.graph.specs.Searching.{Searched};
 ghost use Rattle.route.specs.Choosing.{runFor, pairRun};
 ghost use Rattle.route.specs.FirstPair.{placeRun};
 use graph::ends::keys_to_goal;
+use graph::keys::KEY_STEP;
+use graph::keys::UNLINKED;
 use graph::keys::keys_to;
+use graph::portals::SECTOR_PORTALS;
 use model::Measures;
 
-// The run of a pair by the key of its path, its leg and the moves from its end to the goal; 4294967295 where it is no pair.
+// How many pairs there are of a place in the sector of the source and one in that of the goal.
+pub const PAIRS: usize = SECTOR_PORTALS * SECTOR_PORTALS;
+
+// The run of a pair by the key of its path, its leg and the moves from its end to the goal; UNLINKED where it is no pair.
 fn run_of(key: u32, leg: u8, last: u8) -> u32
     ensures { λ r. ⌜ r ≡ runFor key leg last ⌝ }
 {
     if leg == 255 {
-        return 4294967295;
+        return UNLINKED;
     }
     if last == 255 {
-        return 4294967295;
+        return UNLINKED;
     }
-    if key == 4294967295 {
-        return 4294967295;
+    if key == UNLINKED {
+        return UNLINKED;
     }
-    key / 4096 + (last as u32)
+    key / KEY_STEP + (last as u32)
 }
 
 // The first of twenty places with the least run, or 20 where there is none: keys from number p on, legs and last moves by place.
 fn first_place(keys: &[u32], p: usize, legs: &[u8], lasts: &[u8]) -> usize
-    requires { ⌜ (p + 20 ≤ length (now keys)) × (length (now keys) ≤ 2000) × (length (now legs) ≡ 20) × (length (now lasts) ≡ 20) ⌝ }
-    ensures { λ r. ⌜ Foremost (placeRun (now (keys .entry)) p (now (legs .entry)) (now (lasts .entry))) unlinked 20 r ⌝ }
+    requires { ⌜ (p + sectorPortals ≤ length (now keys)) × (length (now keys) ≤ 2000) × (length (now legs) ≡ sectorPortals) × (length (now lasts) ≡ sectorPortals) ⌝ }
+    ensures { λ r. ⌜ Foremost (placeRun (now (keys .entry)) p (now (legs .entry)) (now (lasts .entry))) unlinked sectorPortals r ⌝ }
 {
-    let mut best = 20;
-    let mut least = 4294967295;
+    let mut best = SECTOR_PORTALS;
+    let mut least = UNLINKED;
     let mut c = 0;
-    while c < 20 {
+    while c < SECTOR_PORTALS {
         let run = run_of(keys[p + c], legs[c], lasts[c]);
         if run < least {
             least = run;
@@ -60,17 +66,17 @@ pub fn choose_pair(
     lasts: &[u8],
     keys: &mut [u32],
 ) -> usize
-    requires { ⌜ Searched m (now table) (length (now keys)) 2000 × (p + 20 ≤ sectors m * 20) × (q + 20 ≤ sectors m * 20) × (length (now legs) ≡ 20) × (length (now lasts) ≡ 20) ⌝ }
+    requires { ⌜ Searched m (now table) (length (now keys)) 2000 × (p + sectorPortals ≤ portalCount m) × (q + sectorPortals ≤ portalCount m) × (length (now legs) ≡ sectorPortals) × (length (now lasts) ≡ sectorPortals) ⌝ }
     requires { ⌜ BothWays (tableGraph m (now table)) ⌝ }
-    ensures { λ r. ⌜ Foremost (pairRun (tableGraph m (now (table .entry))) (now (legs .entry)) (now (lasts .entry)) p q) unlinked 400 r ⌝ }
+    ensures { λ r. ⌜ Foremost (pairRun (tableGraph m (now (table .entry))) (now (legs .entry)) (now (lasts .entry)) p q) unlinked (sectorPortals * sectorPortals) r ⌝ }
 {
-    let zeros: [u8; 20] = [0; 20];
+    let zeros: [u8; SECTOR_PORTALS] = [0; SECTOR_PORTALS];
     keys_to_goal(m, table, q, lasts, keys);
     let c = first_place(keys, p, legs, &zeros);
-    if 20 <= c {
-        return 400;
+    if SECTOR_PORTALS <= c {
+        return PAIRS;
     }
     keys_to(m, table, p + c, keys);
     let d = first_place(keys, q, &zeros, lasts);
-    c * 20 + d
+    c * SECTOR_PORTALS + d
 }

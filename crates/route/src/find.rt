@@ -3,22 +3,27 @@ ghost use mathlib.Core.Path.{_≡_};
 ghost use Prim.Native.Nat.{_*_, _/_, _≤_, _<_};
 ghost use lib.ListN.{length};
 ghost use Rattle.model.specs.Sectors.{sectors, cells};
-ghost use Rattle.model.specs.Portals.{portalGraph};
+ghost use Rattle.model.specs.Portals.{portalCount, arcCount, portalGraph};
 ghost use Rattle.model.specs.Route.{throughPortals, routeOf};
 ghost use Rattle.model.specs.Store.{decode};
 ghost use Rattle.graph.specs.EdgeTable.{Opened};
 ghost use Rattle.graph.specs.Following.{Linked};
 ghost use Rattle.route.specs.Finding.{foundAnswer, foundInto, lastRoute, Paired, pairRoute};
+use crate::choice::PAIRS;
 use crate::choice::choose_pair;
 use crate::steps::step_count;
 use crate::steps::write_last;
 use crate::steps::write_steps;
+use fields::sectors::SECTOR_CELLS;
 use fields::sectors::sectors;
 use graph::edges::fill_edges;
+use graph::keys::KEY_STEP;
 use graph::keys::keys_to;
 use graph::near::moves_to;
 use graph::near::portal_moves;
 use graph::path::least_path;
+use graph::portals::SECTOR_ARCS;
+use graph::portals::SECTOR_PORTALS;
 use model::Measures;
 use model::Routed;
 
@@ -31,7 +36,7 @@ fn one_step(m: Measures, goal: usize, moves: u8, list: &mut [u8]) -> Routed
     if list.len() / 6 < 1 {
         return Routed::Refused(25);
     }
-    write_last(m, goal / 100, goal, list);
+    write_last(m, goal / SECTOR_CELLS, goal, list);
     Routed::Route {
         steps: 1,
         leg: 0,
@@ -67,7 +72,7 @@ fn through_pair(
     Routed::Route {
         steps: steps as u32,
         leg: leg as u32,
-        run: keys[p] / 4096 + (last as u32),
+        run: keys[p] / KEY_STEP + (last as u32),
     }
 }
 
@@ -81,29 +86,29 @@ fn through_lists(
     keys: &mut [u32],
     list: &mut [u8],
 ) -> Routed
-    requires { ⌜ Opened m (now st) × (source < cells m) × (goal < cells m) × (length (now table) ≡ sectors m * 400) × (length (now keys) ≡ sectors m * 20) ⌝ }
+    requires { ⌜ Opened m (now st) × (source < cells m) × (goal < cells m) × (length (now table) ≡ arcCount m) × (length (now keys) ≡ portalCount m) ⌝ }
     ensures answer { λ r. ⌜ r ≡ foundAnswer (length (now (list .entry)) / 6) (throughPortals (decode (now (st .entry))) (portalGraph (decode (now (st .entry)))) source goal) ⌝ }
     ensures steps { λ _. ⌜ now (list .exit) ≡ foundInto (throughPortals (decode (now (st .entry))) (portalGraph (decode (now (st .entry)))) source goal) (now (list .entry)) ⌝ }
 {
-    let mut legs: [u8; 20] = [255; 20];
-    let mut lasts: [u8; 20] = [255; 20];
+    let mut legs: [u8; SECTOR_PORTALS] = [255; SECTOR_PORTALS];
+    let mut lasts: [u8; SECTOR_PORTALS] = [255; SECTOR_PORTALS];
     portal_moves(st, m, source, &mut legs);
     portal_moves(st, m, goal, &mut lasts);
     fill_edges(st, m, table);
-    let p = source / 100 * 20;
-    let q = goal / 100 * 20;
+    let p = source / SECTOR_CELLS * SECTOR_PORTALS;
+    let q = goal / SECTOR_CELLS * SECTOR_PORTALS;
     let k = choose_pair(m, table, p, q, &legs, &lasts, keys);
-    if 400 <= k {
+    if PAIRS <= k {
         return Routed::NoRoute;
     }
-    let leg = legs[k / 20];
-    let last = lasts[k % 20];
+    let leg = legs[k / SECTOR_PORTALS];
+    let last = lasts[k % SECTOR_PORTALS];
     through_pair(
         st,
         m,
         table,
-        p + k / 20,
-        q + k % 20,
+        p + k / SECTOR_PORTALS,
+        q + k % SECTOR_PORTALS,
         goal,
         leg,
         last,
@@ -130,8 +135,8 @@ fn through_portals(st: &[u8], m: Measures, source: usize, goal: usize, list: &mu
 {
     let mut table = table_room();
     let mut keys = key_room();
-    let arcs = sectors(m) * 400;
-    let numbers = sectors(m) * 20;
+    let arcs = sectors(m) * SECTOR_ARCS;
+    let numbers = sectors(m) * SECTOR_PORTALS;
     through_lists(
         st,
         m,

@@ -11,15 +11,15 @@ ghost use Rattle.model.specs.Route.{stepAt, stepsOf};
 ghost use Rattle.model.specs.Store.{decode};
 ghost use Rattle.graph.specs.EdgeTable.{Opened};
 ghost use Rattle.route.specs.PortalPaths.{PortalPath};
-use fields::cells::side_at;
 use fields::numbers::byte;
 use fields::numbers::wide;
-use graph::portals::mark_of;
+use fields::sectors::SECTOR_CELLS;
+use graph::portals::SECTOR_PORTALS;
 use graph::portals::midpoint;
+use graph::portals::window_of_portal;
 use model::Measures;
 use model::RouteStep;
 use model::SectorID;
-use portal::listing::window_of;
 
 // How many steps a path of n portals has, n at least 1: the even positions before the last, and the last.
 pub fn step_count(n: usize) -> usize
@@ -45,9 +45,9 @@ fn step_at(st: &[u8], m: Measures, p: usize) -> RouteStep
     requires { ⌜ Opened m (now st) × (isPortal (decode (now st)) p ≡ true) ⌝ }
     ensures { λ r. ⌜ r ≡ stepAt (decode (now (st .entry))) p ⌝ }
 {
-    let sector = sector_at(m, p / 20);
+    let sector = sector_at(m, p / SECTOR_PORTALS);
     let goal = midpoint(st, m, p);
-    let w = window_of(side_at(p % 20 / 5), mark_of(st, m, p), p % 5);
+    let w = window_of_portal(st, m, p);
     RouteStep {
         column: sector.column,
         row: sector.row,
@@ -80,7 +80,7 @@ pub fn write_last(m: Measures, s: usize, goal: usize, list: &mut [u8])
     let step = RouteStep {
         column: sector.column,
         row: sector.row,
-        goal: byte(goal % 100),
+        goal: byte(goal % SECTOR_CELLS),
         side: 4,
         first: 0,
         last: 0,
@@ -101,5 +101,5 @@ pub fn write_steps(st: &[u8], m: Measures, nodes: &[u16], n: usize, goal: usize,
         i += 1;
     }
     let at = 6 * count;
-    write_last(m, nodes[n - 1] as usize / 20, goal, &mut list[at..]);
+    write_last(m, nodes[n - 1] as usize / SECTOR_PORTALS, goal, &mut list[at..]);
 }

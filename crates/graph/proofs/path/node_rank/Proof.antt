@@ -6,40 +6,30 @@ use denote.Ref.{now}
 use borrow.Author.Needs.{needs}
 use Rattle.model.specs.Windows.{borderCell}
 use Rattle.model.specs.Sides.{side-low}
-use Rattle.model.specs.Portals.{portalMark}
 use Rattle.model.specs.LeastPath.{cellRank}
 use Rattle.model.specs.Store.{decode}
-use Rattle.model.specs.PortalNumbers.{portal-is}
-use Rattle.graph.specs.Reading.{Places, accepted-of, portal-sector, places-of}
+use Rattle.graph.specs.Reading.{accepted-of, portal-sector}
 use Rattle.graph.specs.Following.{rank-is}
 use Rattle.graph.proofs.path.node_rank.Statement.{statement}
 use Rattle.graph.proofs.path.node_rank.Tie as tie
 
-abbrev S : tie.After-window-at → tie.Start
-S c = c .before .before .before .before
-
-found : (c : tie.After-window-at) → Places (portalMark (decode (now (S c .args .st))) (S c .args .p)) (S c .args .p % 5) (c .window-at .result)
-found c = places-of (S c .pre .0) (S c .args .p) (S c .pre .1) (c .before .mark-of .ensures .0) (c .window-at .ensures)
+abbrev S : tie.After-portal-run → tie.Start
+S c = c .before .before .before
 
 sector : (c : tie.After-border-rank2) → S (c .before .before) .args .p / 20 < 100
 sector c = let start = S (c .before .before) in omega (arith, portal-sector (start .pre .0) (start .args .p) (start .pre .1), accepted-of (start .pre .0) .few-sectors)
 
-side-at-requires : tie.Need-side-at-requires
-side-at-requires c κs = search needs
+portal-side-requires : tie.Need-portal-side-requires
+portal-side-requires c κs = search needs
 
-mark-of-requires : tie.Need-mark-of-requires
-mark-of-requires c κs = let start = c .before .before in (start .pre .0, portal-sector (start .pre .0) (start .args .p) (start .pre .1))
-
-window-at-requires : tie.Need-window-at-requires
-window-at-requires c κs =
-    let start = c .before .before .before in
-    (c .mark-of .ensures .1, rw (c .mark-of .ensures .0) (portal-is (decode (now (start .args .st))) (start .args .p) (start .pre .1) .among))
+portal-run-requires : tie.Need-portal-run-requires
+portal-run-requires c κs = search needs
 
 border-rank-requires : tie.Need-border-rank-requires
-border-rank-requires c κs = found c .low-first
+border-rank-requires c κs = c .portal-run .ensures .low-first
 
 border-rank-requires-2 : tie.Need-border-rank-requires-2
-border-rank-requires-2 c κs = found (c .before) .low-last
+border-rank-requires-2 c κs = c .before .portal-run .ensures .low-last
 
 mul-result : tie.Need-mul-result
 mul-result c = omega (arith, sector c)
@@ -60,23 +50,22 @@ side-number-requires : tie.Need-side-number-requires
 side-number-requires c κs = search needs
 
 add-result-3 : tie.Need-add-result-3
-add-result-3 c = let at = c .before in omega (arith, sector at, at .before .border-rank .ensures .1, at .border-rank2 .ensures .1, c .side-number .ensures, side-low (at .before .before .before .before .side-at .result))
+add-result-3 c = let at = c .before in omega (arith, sector at, at .before .border-rank .ensures .1, at .border-rank2 .ensures .1, c .side-number .ensures, side-low (at .before .before .before .portal-side .result))
 
 returns : tie.Need-returns
 returns c =
     let at = c .before .before .before in
     let start = S at in
-    let side = at .before .before .side-at in
-    let parts = rank-is (now (start .args .st)) (start .args .p) (side .ensures) (c .before .before .border-rank .ensures .0 ∙ ap (λ (i : ℕ). cellRank (borderCell (side .result) i)) (found at .begins)) (c .before .border-rank2 .ensures .0 ∙ ap (λ (i : ℕ). cellRank (borderCell (side .result) i)) (found at .ends)) in
+    let side = at .before .portal-side in
+    let parts = rank-is (now (start .args .st)) (start .args .p) (side .ensures) (c .before .before .border-rank .ensures .0 ∙ ap (λ (i : ℕ). cellRank (borderCell (side .result) i)) (at .portal-run .ensures .begins)) (c .before .border-rank2 .ensures .0 ∙ ap (λ (i : ℕ). cellRank (borderCell (side .result) i)) (at .portal-run .ensures .ends)) in
     ap (λ (k : ℕ). ((start .args .p / 20 * 100 + c .before .before .border-rank .result) * 100 + c .before .border-rank2 .result) * 4 + k) (c .side-number .ensures) ∙ parts
 
 pub node-rank-spec : {M : Type 1} → statement M
 node-rank-spec =
     tie.close
     (tie.spec
-    side-at-requires
-    mark-of-requires
-    window-at-requires
+    portal-side-requires
+    portal-run-requires
     border-rank-requires
     border-rank-requires-2
     mul-result

@@ -16,7 +16,7 @@ use Rattle.graph.proofs.portals.facing.Tie as tie
 
 -- how large its parts are
 far : (c : tie.After-beyond) → c .beyond .result ≤ 110
-far c = omega (arith, c .beyond .ensures, beyond-low (c .before .before .args .m) (c .before .before .args .p / 20) (c .before .side-at .result))
+far c = omega (arith, c .beyond .ensures, beyond-low (c .before .before .args .m) (c .before .before .args .p / 20) (c .before .portal-side .result))
 
 near : (c : tie.After-side-number) → c .side-number .result < 4
 near c = omega (arith, c .side-number .ensures, side-low (c .before .opposite .result))
@@ -26,8 +26,8 @@ same : (m : Measures) (p : ℕ) {side back : Side} {s k : ℕ} → side ≡ side
 unfolding facing
 same m p e f g k = rw (k, g, f, e)
 
-side-at-requires : tie.Need-side-at-requires
-side-at-requires c κs = search needs
+portal-side-requires : tie.Need-portal-side-requires
+portal-side-requires c κs = search needs
 
 beyond-requires : tie.Need-beyond-requires
 beyond-requires c κs = search needs
@@ -53,13 +53,13 @@ add-result-2 c = omega (arith, near c, far (c .before .before))
 returns : tie.Need-returns
 returns c =
     let start = c .before .before .before .before in
-    same (start .args .m) (start .args .p) (c .before .before .before .side-at .ensures) (c .before .before .beyond .ensures) (c .before .opposite .ensures) (c .side-number .ensures)
+    same (start .args .m) (start .args .p) (c .before .before .before .portal-side .ensures) (c .before .before .beyond .ensures) (c .before .opposite .ensures) (c .side-number .ensures)
 
 pub facing-spec : {M : Type 1} → statement M
 facing-spec =
     tie.close
     (tie.spec
-    side-at-requires
+    portal-side-requires
     beyond-requires
     mul-result
     opposite-requires
