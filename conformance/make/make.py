@@ -4,8 +4,8 @@
 Owed answers are those of the Rust of docs/src (compare answer --router rust). Drawn cases are kept because a wrong
 reading of document 01 (wrong/*.edit) answers them otherwise: for each wrong reading the shortest of those drawn, and for
 one of scaling also the shortest whose routes a program like hallroute prints otherwise. Listed cases come from
-listed.py. No case that is about another rule has a tie: a router with a wrong tie fails by that rule alone. The status is
-not 0 if a wrong reading passes all cases of its group, or two cases are equal.
+listed.py. No case about another rule is one that a wrong tie answers otherwise. The status is not 0 if a wrong reading
+passes all cases of its group, or two cases are equal.
 
     python3 conformance/make/make.py [FOLDER]     writes into FOLDER, or over ../cases
 """

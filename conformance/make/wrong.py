@@ -108,7 +108,7 @@ def fails_by_its_rule(edit, interface, program):
     held = subprocess.run(command, capture_output=True, text=True)
     lines = held.stdout.splitlines()
     broken = [edit.rule in line for line in lines if line.startswith("broken rule, ")]
-    # No case about another rule has a tie.
+    # The maker keeps no case about another rule that a wrong tie fails.
     named = any(broken) if edit.group != "ties" else all(broken)
     print(f"{edit.name}: {lines[-1]}{'' if named else ', and its rule is not named, or not alone'}", flush=True)
     return held.returncode == 1 and named
