@@ -1,5 +1,6 @@
 """Floors, changes and pairs drawn from a seed, as statements of cases."""
 import form
+from store import Floor
 
 
 class Draw:
@@ -31,10 +32,11 @@ class Hall:
 
     def __init__(self, columns, rows, scale):
         self.columns, self.rows, self.scale = columns, rows, scale
+        self.floor = Floor(columns, rows)
         self.costs = {}
 
     def number(self, x, y):
-        return (x // 10 * self.rows + y // 10) * 100 + y % 10 * 10 + x % 10
+        return self.floor.number(x, y)
 
     def places(self):
         return [(x, y) for x in range(10 * self.columns) for y in range(10 * self.rows)]
@@ -43,7 +45,7 @@ class Hall:
         self.costs[x, y] = 255
 
     def cells(self):
-        return 100 * self.columns * self.rows
+        return self.floor.cells
 
     def statements(self, build):
         """The hall and its costs; `build` is asked, `built` is only told."""

@@ -21,6 +21,7 @@ import form
 import drawn
 import listed
 import router
+import rules
 import store
 import wrong
 
@@ -124,7 +125,7 @@ def kept(drawn_statements, tells, most, group, edits, rust):
     pool = [answered(group, "", statements, rust) for statements in drawn_statements]
     cases, texts, ties = [], set(), tied(pool)
     for edit in edits:
-        untied = (case for case in tells(edit, pool) if edit.rule == listed.TIES or id(case) not in ties)
+        untied = (case for case in tells(edit, pool) if edit.rule == rules.TIES or id(case) not in ties)
         fresh = (case for case in untied if case.text() not in texts)
         for case in itertools.islice(fresh, most):
             texts.add(case.text())
@@ -140,7 +141,7 @@ def listed_cases(group, rust):
         pool[-1][0].rule = rule
     ties = tied(pool)
     for case, _ in pool:
-        if id(case) in ties and case.rule != listed.TIES:
+        if id(case) in ties and case.rule != rules.TIES:
             sys.exit(f"a tie decides, which is another rule than that of\n{case.rule}\n{case.text()}")
     return [case for case, _ in pool]
 

@@ -1,16 +1,8 @@
 """Winding floors: snakes, serpentines, a comb, stairs and weaves, for routes with many steps, a long run or a long leg."""
 import snake
 from floors import Hall
+from rules import JOINED, LEG, NONE, ONE, PORTAL, RUN, STEPS, WEIGHT
 from store import aisle_cells
-
-LEG = "Leg = moves from source to the start midpoint, not counted in the choice."
-RUN = "Run = portal path cost + moves from the end midpoint to the goal."
-STEPS = "Of the path, steps are position 0, each even position, and the last, which has the goal and no window."
-NONE = "No pair: none."
-JOINED = "Two cells of a sector are joined if moves lead from one to the other;"
-WEIGHT = "Two portals of a sector whose midpoints are joined inside it have an edge, weight the fewest moves (0 if equal)."
-PORTAL = "A portal is a sector and a window."
-ONE = "if the goal is joined to the source in its sector, one step, leg 0, run the fewest moves."
 
 
 def winding():
