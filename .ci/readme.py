@@ -14,8 +14,8 @@ import sys
 TOP = pathlib.Path(__file__).resolve().parent.parent
 ROOM = TOP / "target" / "readme"
 LIBRARY = TOP / "target" / "hall"
-# The gate runs these itself, and this script with them.
-OF_THE_GATE = ("bash .ci/run", "bash examples/run.sh")
+# The gate runs these itself.
+OF_THE_GATE = ("bash .ci/run", "bash examples/")
 STRICT = ["-std=c99", "-O2", "-Wall", "-Wextra", "-Werror", "-pedantic", "-Wconversion", "-fsanitize=address,undefined", "-fno-sanitize-recover=all"]
 PACKAGE = '[package]\nname = "snippet"\nedition = "2024"\n\n[dependencies]\nhall = { path = "../hall" }\n\n[workspace]\n'
 
