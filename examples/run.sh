@@ -29,8 +29,8 @@ c() { cc -std=c99 "${warnings[@]}" -I "$hall/include" "$@" -L "$hall/lib" -lhall
 cpp() { g++ -std=c++11 "${warnings[@]}" -I "$hall/include" "$@" -L "$hall/lib" -lhall; }
 
 # Each program once as it is, once with the sanitizers on the caller's side.
+# shellcheck disable=SC2086
 for checks in "" "${sanitizers[*]}"; do
-    # shellcheck disable=SC2086
     cpp $checks c/header.cpp -o "$into/header"
     cpp $checks -x c++ c/empty.c -x none -o "$into/empty_cpp"
     c $checks c/empty.c -o "$into/empty"

@@ -1,8 +1,9 @@
 /*
  * hall.h: portal routes over a sectored trolley floor, for C99 and C++11 and later.
  *
- * The calls are those of document 01, docs/01-scope.md; what each of them answers and leaves in lent
- * memory is proved equal to that document. Link with libhall.a (x86-64, System V calling convention).
+ * The calls are those of document 01, docs/01-scope.md, and hall_version; what each of them answers and
+ * leaves in lent memory is proved equal to that document. Link with libhall.a (x86-64, System V calling
+ * convention).
  *
  * THE FLOOR
  *
@@ -32,9 +33,9 @@
  *
  * NUMBERS
  *
- * Every call answers a number: 0, or that of the first refusal that applies, in the order that stands
- * at the call. A refusal alters nothing that was lent, and the other values of its answer are 0.
- * hall_refusal_text, at the end, says what each number means.
+ * Every call of document 01 answers a number: 0, or that of the first refusal that applies, in the
+ * order that stands at the call. A refusal alters nothing that was lent, and the other values of its
+ * answer are 0. hall_refusal_text, at the end, says what each number means.
  *
  * THREADS AND MEMORY
  *
