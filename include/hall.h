@@ -15,8 +15,16 @@
  *   floor number of a cell = sector number x 100 + index
  *
  * A cell's base cost is 0 to 254 where it is open and 255 where it is blocked. Scaled costs are the
- * base costs with the cells blocked that the trolley is too wide for; scale, 1 to 9, says how wide it
- * is. Moves go between open cells that share a side, at 1 each: other costs weigh nothing.
+ * base costs with 255 in the cells that scaling closes; scale is 1 to 9. Moves go between cells that
+ * are open by their scaled costs and share a side, at 1 each: other costs weigh nothing.
+ *
+ * Scaling closes gaps of fewer than scale cells between walls, seen along eight directions from a
+ * blocked cell, up to the next cell that is blocked or already closed, or to the end of the floor. It
+ * can leave open: gaps of scale cells or more, cells beside a wall, and cells of a narrow gap behind a
+ * cell already closed or over a sector border. Scale is radius over unit, rounded up, but a trolley is
+ * two radii wide: with radius 2 and unit 1 it is 4 cells wide, and gaps of 2 cells stay open to it.
+ * Whoever plans the hall has to choose unit and radius so that every gap that stays open is wide
+ * enough.
  *
  * A window is a run of open places on the border of two sectors that cannot be made longer. It is
  * named by its side and the indices of its first and last cell, from the west on N and S, from the

@@ -3,7 +3,7 @@
 set -euo pipefail
 cd "$(dirname "${BASH_SOURCE[0]}")/.."
 library=target/hall/lib/libhall.a
-if [ ! -e "$library" ] || [ -n "$(find crates -newer "$library" -print -quit)" ]; then
+if [ ! -e "$library" ] || [ -n "$(find crates include -newer "$library" -print -quit)" ]; then
     echo "view/build.sh: proving the library hall_c, which takes some minutes" >&2
     bash examples/build.sh >&2
 fi

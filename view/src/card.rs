@@ -1,16 +1,11 @@
 //! A route's card.
 
-use crate::floor::{CELLS, Place};
+use proved::{MOST_STEPS, Refusal, Routed};
+
+use crate::floor::Place;
 use crate::hall::{Hall, Window};
 use crate::symbols;
 use crate::words::counted;
-
-/// The most steps that a card has.
-const MOST_STEPS: usize = 1_001;
-/// Bytes of a step in the flat list: column, row, goal, side, first cell, last cell.
-const STEP: usize = 6;
-/// The side of a step without window.
-const NO_WINDOW: u8 = 4;
 
 const LETTERS: [char; 4] = ['N', 'E', 'S', 'W'];
 const NAMES: [&str; 4] = ["north", "east", "south", "west"];
@@ -52,17 +47,16 @@ pub struct End {
 
 impl Card {
     /// The card of a pair.
-    pub fn of(hall: &Hall, source: usize, goal: usize) -> Card {
-        let mut list = vec![0; STEP * MOST_STEPS];
-        let found = proved::route(&hall.store, source, goal, &mut list);
-        let answer = match (found.number, found.steps as usize) {
-            (0, 0) => Answer::None,
-            (0, count) => Answer::Route {
-                steps: list.chunks_exact(STEP).take(count).map(step).collect(),
-                leg: found.leg,
-                run: found.run,
+    pub fn of(hall: &Hall, (source, goal): (usize, usize)) -> Card {
+        let mut list = [proved::Step::default(); MOST_STEPS];
+        let answer = match hall.store.route(source, goal, &mut list) {
+            Ok(Routed::NoRoute) => Answer::None,
+            Ok(Routed::Route { steps, leg, run }) => Answer::Route {
+                steps: steps.iter().map(Step::of).collect(),
+                leg,
+                run,
             },
-            (number, _) => Answer::Refused(number),
+            Err(Refusal(number)) => Answer::Refused(number),
         };
         Card {
             source,
@@ -132,16 +126,15 @@ impl Card {
     }
 }
 
-fn step(entry: &[u8]) -> Step {
-    let window = Window::from_entry(&[entry[4], entry[5], entry[3]]);
-    Step {
-        sector: (entry[0].into(), entry[1].into()),
-        goal: usize::from(entry[2]) % CELLS,
-        window: (entry[3] != NO_WINDOW).then_some(window),
-    }
-}
-
 impl Step {
+    fn of(step: &proved::Step) -> Step {
+        Step {
+            sector: (step.column.into(), step.row.into()),
+            goal: step.goal.into(),
+            window: step.window().map(Window::of),
+        }
+    }
+
     fn short(&self) -> String {
         let (column, row) = self.sector;
         let window = self.window.map_or("-".to_string(), |w| {

@@ -1,9 +1,8 @@
 //! A floor as the proved library builds it: scaled costs and windows.
 
-use crate::floor::{BLOCKED, CELLS, Floor, LENGTH, Place};
+use proved::{MOST_WINDOWS, Measures, Store};
 
-/// The most windows of a sector, five a side.
-const MOST_WINDOWS: usize = 20;
+use crate::floor::{BLOCKED, CELLS, Floor, LENGTH, Place};
 
 /// First and last cell by index; side 0 N, 1 E, 2 S, 3 W.
 #[derive(Debug, Clone, Copy, PartialEq, Eq)]
@@ -14,10 +13,12 @@ pub struct Window {
 }
 
 impl Window {
-    /// From the three bytes of a list: first cell, last cell, side.
-    pub fn from_entry(entry: &[u8]) -> Window {
-        let [first, last, side] = [entry[0], entry[1], entry[2]].map(usize::from);
-        Window { first, last, side }
+    pub fn of(window: proved::Window) -> Window {
+        Window {
+            first: window.first.into(),
+            last: window.last.into(),
+            side: window.side.into(),
+        }
     }
 
     /// From one cell of the window to the next.
@@ -43,7 +44,7 @@ impl Window {
 /// A built hall.
 pub struct Hall {
     pub floor: Floor,
-    pub store: Vec<u8>,
+    pub store: Store,
     /// The windows of each sector by its number, N, E, S, W.
     pub windows: Vec<Vec<Window>>,
 }
@@ -51,10 +52,13 @@ pub struct Hall {
 impl Hall {
     /// Floors that were read have measures and costs that build accepts.
     pub fn build(floor: Floor) -> Hall {
-        let mut store = vec![0; 4 + 208 * floor.sectors()];
-        let measures = [floor.columns as u8, floor.rows as u8, floor.scale];
-        let number = proved::build(measures, &floor.costs, &mut store);
-        assert_eq!(number, 0, "build accepts a floor that was read");
+        let measures = Measures {
+            columns: floor.columns as u8,
+            rows: floor.rows as u8,
+            scale: floor.scale,
+        };
+        let store =
+            Store::build(measures, &floor.costs).expect("build accepts a floor that was read");
         let windows = (0..floor.sectors())
             .map(|sector| windows_of(&store, sector))
             .collect();
@@ -72,10 +76,10 @@ impl Hall {
 
     /// Whether a place is open to this trolley.
     pub fn is_open(&self, place: Place) -> bool {
-        self.store[4 + self.floor.costs.len() + self.floor.number(place)] != BLOCKED
+        self.store.bytes()[4 + self.floor.costs.len() + self.floor.number(place)] != BLOCKED
     }
 
-    /// Whether a place is blocked by the trolley's width alone.
+    /// Whether a place is closed by scaling alone.
     pub fn is_narrow(&self, place: Place) -> bool {
         self.base(place) != BLOCKED && !self.is_open(place)
     }
@@ -96,11 +100,11 @@ impl Hall {
     }
 }
 
-fn windows_of(store: &[u8], sector: usize) -> Vec<Window> {
-    let mut list = [0; 3 * MOST_WINDOWS];
-    let answer = proved::windows(store, sector, &mut list);
-    let entries = list.chunks_exact(3).take(answer.count.into());
-    entries.map(Window::from_entry).collect()
+fn windows_of(store: &Store, sector: usize) -> Vec<Window> {
+    let mut list = [proved::Window::default(); MOST_WINDOWS];
+    let windows = store.windows(sector, &mut list);
+    let windows = windows.expect("the sector is one of the floor");
+    windows.iter().copied().map(Window::of).collect()
 }
 
 /// The place over the border at a side.

@@ -46,14 +46,11 @@ pub fn read(bytes: &[u8]) -> Result<HallFile, u8> {
             .map_or(0, |n| usize::from(*n).min(MOST_SECTORS))
     };
     let mut costs = vec![0; sectors(0) * sectors(1) * CELLS];
-    let answer = proved::read_file(file, &mut costs);
-    if answer.number != 0 {
-        return Err(answer.number);
-    }
+    let measures = proved::read_file(file, &mut costs).map_err(|refusal| refusal.0)?;
     let floor = Floor {
-        columns: answer.columns.into(),
-        rows: answer.rows.into(),
-        scale: answer.scale,
+        columns: measures.columns.into(),
+        rows: measures.rows.into(),
+        scale: measures.scale,
         costs,
         legend: vec![],
     };

@@ -5,6 +5,7 @@
 pub mod card;
 pub mod drawing;
 pub mod floor;
+pub mod gaps;
 pub mod hall;
 pub mod hall_file;
 pub mod problem;

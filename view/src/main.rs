@@ -7,10 +7,11 @@ use std::process::ExitCode;
 use std::{env, fs};
 
 use hallview::card::Card;
+use hallview::drawing::Drawn;
 use hallview::floor::Floor;
 use hallview::hall::Hall;
 use hallview::words::counted;
-use hallview::{drawing, hall_file, svg, terminal};
+use hallview::{drawing, gaps, hall_file, svg, terminal};
 use options::{Options, Task};
 
 fn main() -> ExitCode {
@@ -28,26 +29,19 @@ fn main() -> ExitCode {
 }
 
 fn run(options: &Options) -> Result<(), String> {
-    let (floor, pairs) = read(&options.floor)?;
-    let pair = pair(options, &floor, &pairs)?;
-    let hall = Hall::build(floor);
-    let card = pair.map(|(source, goal)| Card::of(&hall, source, goal));
-    let file = hall_file::write(&hall.floor);
-    let input = [
-        file.clone(),
-        pair.map(hall_file::write_pair).unwrap_or_default(),
-    ]
-    .concat();
-    let on_floor = |number: usize| number < hall.floor.costs.len();
-    let ends = pair
-        .filter(|(source, goal)| on_floor(*source) && on_floor(*goal))
-        .map(|(source, goal)| (hall.floor.place(source), hall.floor.place(goal)));
+    let mut drawn = read(&options.floor)?;
+    drawn.pairs = pair(options, &drawn)?.into_iter().collect();
+    let hall = Hall::build(drawn.floor.clone());
+    let card = drawn.pairs.first().map(|pair| Card::of(&hall, *pair));
+    let file = hall_file::write(&drawn.floor);
+    let pairs = drawn.pairs.iter().copied().flat_map(hall_file::write_pair);
+    let input: Vec<u8> = file.iter().copied().chain(pairs).collect();
+    if let Some(warning) = drawn.width.and_then(|width| gaps::warning(&hall, width)) {
+        eprintln!("{}: warning: {warning}", options.floor);
+    }
     write(&options.hall, &file)?;
     write(&options.input, &input)?;
-    write(
-        &options.drawing,
-        drawing::write(&hall.floor, ends).as_bytes(),
-    )?;
+    write(&options.drawing, drawing::write(&drawn).as_bytes())?;
     write(&options.svg, svg::draw(&hall, card.as_ref()).as_bytes())?;
     if options.quiet {
         return Ok(());
@@ -57,7 +51,7 @@ fn run(options: &Options) -> Result<(), String> {
 }
 
 /// A floor, and the pairs that come with it.
-fn read(name: &str) -> Result<(Floor, Vec<(usize, usize)>), String> {
+fn read(name: &str) -> Result<Drawn, String> {
     let mut bytes = vec![];
     let read = match name {
         "-" => io::stdin().read_to_end(&mut bytes).map(|_| bytes),
@@ -67,15 +61,11 @@ fn read(name: &str) -> Result<(Floor, Vec<(usize, usize)>), String> {
     if name.ends_with(".hall") {
         return read_hall_file(name, &bytes);
     }
-    let drawn = drawing::read(&bytes).map_err(|problem| format!("{name}: {problem}"))?;
-    let pairs = drawn
-        .ends
-        .map(|(source, goal)| (drawn.floor.number(source), drawn.floor.number(goal)));
-    Ok((drawn.floor, pairs.into_iter().collect()))
+    drawing::read(&bytes).map_err(|problem| format!("{name}: {problem}"))
 }
 
 /// Spare bytes are told, as `hallroute` does; the hall is drawn all the same.
-fn read_hall_file(name: &str, bytes: &[u8]) -> Result<(Floor, Vec<(usize, usize)>), String> {
+fn read_hall_file(name: &str, bytes: &[u8]) -> Result<Drawn, String> {
     let read = hall_file::read(bytes).map_err(|number| {
         let meaning = hall_file::meaning(number);
         format!(
@@ -86,26 +76,27 @@ fn read_hall_file(name: &str, bytes: &[u8]) -> Result<(Floor, Vec<(usize, usize)
         let spare = counted(read.spare, "spare byte");
         eprintln!("{name}: cut: {spare} behind the pairs; a pair has 4 bytes");
     }
-    Ok((read.floor, read.pairs))
+    Ok(Drawn {
+        floor: read.floor,
+        pairs: read.pairs,
+        width: None,
+    })
 }
 
 /// The pair whose route is drawn.
-fn pair(
-    options: &Options,
-    floor: &Floor,
-    pairs: &[(usize, usize)],
-) -> Result<Option<(usize, usize)>, String> {
+fn pair(options: &Options, drawn: &Drawn) -> Result<Option<(usize, usize)>, String> {
     if let Some((source, goal)) = &options.route {
+        let floor = &drawn.floor;
         return Ok(Some((number(floor, source)?, number(floor, goal)?)));
     }
     let Some(wanted) = options.pair else {
-        return Ok(pairs.first().copied());
+        return Ok(drawn.pairs.first().copied());
     };
-    let pair = wanted.checked_sub(1).and_then(|at| pairs.get(at));
+    let pair = wanted.checked_sub(1).and_then(|at| drawn.pairs.get(at));
     pair.map(|pair| Some(*pair)).ok_or(format!(
         "{} has {}: there is no pair {wanted}",
         options.floor,
-        counted(pairs.len(), "pair")
+        counted(drawn.pairs.len(), "pair")
     ))
 }
 

@@ -283,7 +283,7 @@ fn line_through(sides: u8) -> char {
 fn legend(hall: &Hall, card: Option<&Card>) -> String {
     let mut entries = vec!["█ blocked".to_string()];
     if hall.floor.places().any(|place| hall.is_narrow(place)) {
-        entries.push(format!("{NARROW} blocked by the trolley's width"));
+        entries.push(format!("{NARROW} closed by scaling"));
     }
     entries.push("· open at cost 1".to_string());
     let others = symbols::table(&hall.floor).into_iter();

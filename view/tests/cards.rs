@@ -1,9 +1,12 @@
 //! Hall files, cards and the ways drawn for them, on the samples and on drawn floors.
 
+mod common;
+
 use std::fs;
 
+use common::{Draw, drawn_hall};
 use hallview::card::{Answer, Card};
-use hallview::floor::{Floor, Place};
+use hallview::floor::Place;
 use hallview::hall::Hall;
 use hallview::hall_file::{self, HallFile};
 use hallview::walk::walk;
@@ -24,7 +27,7 @@ fn cards_are_the_lines_of_hallroute() {
         let input = sample(name);
         let HallFile { floor, pairs, .. } = hall_file::read(&input).unwrap();
         let hall = Hall::build(floor);
-        let card = |pair: &(usize, usize)| Card::of(&hall, pair.0, pair.1).line() + "\n";
+        let card = |pair: &(usize, usize)| Card::of(&hall, *pair).line() + "\n";
         let lines: String = pairs.iter().map(card).collect();
         assert_eq!(lines.into_bytes(), second::hallroute(&input), "{name}");
     }
@@ -51,32 +54,6 @@ fn refused_hall_files() {
     assert_eq!(refused(&[1, 1, 1, 1, 0, 100, 0, 255]), 15);
 }
 
-/// Numbers from a seed.
-struct Draw(u64);
-
-impl Draw {
-    fn below(&mut self, count: usize) -> usize {
-        self.0 = self
-            .0
-            .wrapping_mul(6_364_136_223_846_793_005)
-            .wrapping_add(1_442_695_040_888_963_407);
-        (self.0 >> 33) as usize % count
-    }
-}
-
-fn drawn_hall(draw: &mut Draw) -> Hall {
-    let (columns, rows) = (1 + draw.below(4), 1 + draw.below(4));
-    let (scale, per_cent) = ([1, 1, 2, 3][draw.below(4)], draw.below(35));
-    let mut cost = |_| if draw.below(100) < per_cent { 255 } else { 1 };
-    Hall::build(Floor {
-        columns,
-        rows,
-        scale,
-        costs: (0..100 * columns * rows).map(&mut cost).collect(),
-        legend: vec![],
-    })
-}
-
 fn are_beside(a: Place, b: Place) -> bool {
     a.0.abs_diff(b.0) + a.1.abs_diff(b.1) == 1
 }
@@ -86,10 +63,10 @@ fn a_way_has_as_many_moves_as_leg_and_run() {
     let mut draw = Draw(5);
     let mut longest = 0;
     for _ in 0..60 {
-        let hall = drawn_hall(&mut draw);
+        let hall = drawn_hall(&mut draw, 3);
         let cells = hall.floor.costs.len();
         for _ in 0..20 {
-            let card = Card::of(&hall, draw.below(cells), draw.below(cells));
+            let card = Card::of(&hall, (draw.below(cells), draw.below(cells)));
             let Answer::Route { steps, leg, run } = &card.answer else {
                 assert!(walk(&hall, &card).is_empty());
                 continue;

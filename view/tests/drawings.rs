@@ -1,6 +1,6 @@
 //! Drawings: what is read, and each way in which one can be wrong.
 
-use hallview::drawing::{read, write};
+use hallview::drawing::{Drawn, read, write};
 use hallview::floor::Floor;
 
 /// Settings, then a floor of one sector that is open.
@@ -48,7 +48,7 @@ fn a_floor_with_settings_and_marks() {
         (1, 1, 2)
     );
     assert_eq!(drawn.floor.costs[..6], [1, 1, 255, 40, 5, 1]);
-    assert_eq!(drawn.ends, Some(((0, 0), (9, 9))));
+    assert_eq!(drawn.pairs, [(0, 99)]);
 }
 
 #[test]
@@ -109,8 +109,24 @@ fn wrong_settings() {
             "line 2, column 1: a second scale: line 1 has one",
         ),
         (
-            " width 2\n",
-            "line 1, column 2: no setting is called `width`: there are `scale 2` and legends such as `~ = 40`",
+            " weight 2\n",
+            "line 1, column 2: no setting is called `weight`: there are `scale 2`, `width 2` and legends such as `~ = 40`",
+        ),
+        (
+            "width 0\n",
+            "line 1, column 7: width `0` is not a whole number from 1 to 100",
+        ),
+        (
+            "width 101\n",
+            "line 1, column 7: width `101` is not a whole number from 1 to 100",
+        ),
+        (
+            "width 2\nwidth 2\n",
+            "line 2, column 1: a second width: line 1 has one",
+        ),
+        (
+            "width 2 cells\n",
+            "line 1, column 9: after `width` stands one number, 1 to 100",
         ),
     ]);
 }
@@ -159,15 +175,12 @@ fn wrong_legends() {
 #[test]
 fn settings_below_the_floor() {
     let floor = with_settings("");
-    let stands = "stands above the floor, which began in line 1";
-    assert_eq!(
-        problem(&(floor.clone() + "scale 2\n")),
-        format!("line 11, column 1: the scale {stands}")
-    );
-    assert_eq!(
-        problem(&(floor + "a = 2\n")),
-        format!("line 11, column 1: a legend {stands}")
-    );
+    for setting in ["scale 2", "width 2", "a = 2"] {
+        assert_eq!(
+            problem(&format!("{floor}{setting}\n")),
+            "line 11, column 1: settings stand above the floor, which began in line 1"
+        );
+    }
 }
 
 #[test]
@@ -261,17 +274,30 @@ fn a_drawing_that_is_written_reads_as_the_same_floor() {
         costs,
         legend: vec![],
     };
-    let ends = Some((floor.place(0), floor.place(599)));
-    let drawn = read(write(&floor, ends).as_bytes()).unwrap();
-    assert_eq!(drawn.floor.costs, floor.costs);
-    assert_eq!((drawn.floor.scale, drawn.ends), (4, ends));
+    let given = Drawn {
+        floor,
+        pairs: vec![(0, 599)],
+        width: Some(4),
+    };
+    let mut drawn = read(write(&given).as_bytes()).unwrap();
+    // Its legend gives a character to costs that had none.
+    assert!(drawn.floor.legend.len() > 100);
+    drawn.floor.legend.clear();
+    assert_eq!(drawn, given);
 }
 
 /// A floor whose ends cannot both be marked is written without marks.
-fn assert_unmarked(floor: &Floor, ends: (usize, usize)) {
-    let places = (floor.place(ends.0), floor.place(ends.1));
-    let drawn = read(write(floor, Some(places)).as_bytes()).unwrap();
-    assert_eq!((drawn.floor.costs, drawn.ends), (floor.costs.clone(), None));
+fn assert_unmarked(floor: &Floor, pair: (usize, usize)) {
+    let given = Drawn {
+        floor: floor.clone(),
+        pairs: vec![pair],
+        width: None,
+    };
+    let drawn = read(write(&given).as_bytes()).unwrap();
+    assert_eq!(
+        (drawn.floor.costs, drawn.pairs),
+        (floor.costs.clone(), vec![])
+    );
 }
 
 #[test]
@@ -288,5 +314,6 @@ fn ends_are_marked_only_on_two_cells_of_cost_1() {
 #[test]
 fn a_drawing_keeps_its_own_characters() {
     let text = with_settings("~ = 40\n").replacen('.', "~", 1);
-    assert!(write(&floor(&text), None).contains("|~.........|"));
+    let drawn = read(text.as_bytes()).unwrap();
+    assert!(write(&drawn).contains("|~.........|"));
 }

@@ -1,21 +1,16 @@
 //! The pictures of the sample drawing are those of the repository.
 
-use std::fs;
+mod common;
 
+use common::repository_text;
 use hallview::card::Card;
 use hallview::hall::Hall;
 use hallview::{drawing, svg, terminal};
 
-fn text_of(path: &str) -> String {
-    fs::read_to_string(format!("{}/../{path}", env!("CARGO_MANIFEST_DIR"))).unwrap()
-}
-
 fn sample() -> (Hall, Card) {
-    let drawn = drawing::read(text_of("sample/parcels.txt").as_bytes()).unwrap();
-    let (source, goal) = drawn.ends.unwrap();
-    let numbers = (drawn.floor.number(source), drawn.floor.number(goal));
+    let drawn = drawing::read(repository_text("sample/parcels.txt").as_bytes()).unwrap();
     let hall = Hall::build(drawn.floor);
-    let card = Card::of(&hall, numbers.0, numbers.1);
+    let card = Card::of(&hall, drawn.pairs[0]);
     (hall, card)
 }
 
@@ -23,7 +18,7 @@ fn sample() -> (Hall, Card) {
 fn the_picture_in_docs_is_that_of_the_sample() {
     let (hall, card) = sample();
     assert!(
-        svg::draw(&hall, Some(&card)) == text_of("docs/hall.svg"),
+        svg::draw(&hall, Some(&card)) == repository_text("docs/hall.svg"),
         "run view/pictures.sh"
     );
 }
@@ -32,7 +27,7 @@ fn the_picture_in_docs_is_that_of_the_sample() {
 fn the_terminal_shows_the_sample() {
     let (hall, card) = sample();
     assert!(
-        terminal::draw(&hall, Some(&card), false) == text_of("docs/hall.txt"),
+        terminal::draw(&hall, Some(&card), false) == repository_text("docs/hall.txt"),
         "run view/pictures.sh"
     );
 }
@@ -49,7 +44,7 @@ fn winding() -> (Hall, Card) {
         .map(|row| open.repeat(9) + if row < 5 { &walls[row % 2] } else { &open })
         .collect();
     let hall = Hall::build(drawing::read(text.as_bytes()).unwrap().floor);
-    let card = Card::of(&hall, 0, hall.floor.costs.len() - 1);
+    let card = Card::of(&hall, (0, hall.floor.costs.len() - 1));
     (hall, card)
 }
 
@@ -87,10 +82,10 @@ fn the_legend_tells_the_signs_of_a_card_that_are_drawn() {
     let ((hall, card), (long, long_card)) = (sample(), winding());
     assert_told(&hall, None, 0);
     let blocked = hall.floor.number((0, 7));
-    assert_told(&hall, Some(&Card::of(&hall, card.source, blocked)), 2);
+    assert_told(&hall, Some(&Card::of(&hall, (card.source, blocked))), 2);
     assert_told(&hall, Some(&card), 4);
     assert_told(&long, Some(&long_card), 5);
-    let standing = terminal::draw(&hall, Some(&Card::of(&hall, 344, 344)), false);
+    let standing = terminal::draw(&hall, Some(&Card::of(&hall, (344, 344))), false);
     assert!(standing.contains("S source and goal\n"));
 }
 

@@ -64,6 +64,28 @@ fn wrong_words_are_named() {
     }
 }
 
+/// The sample drawing with another trolley, and what is said of it.
+fn said_of_width(width: usize) -> String {
+    let text = fs::read_to_string(sample("parcels.txt")).unwrap();
+    let text = text.replace("\nwidth 2\n", &format!("\nwidth {width}\n"));
+    let path = written(&format!("width-{width}.txt"), text.as_bytes());
+    let name = path.to_str().unwrap();
+    let (status, _, said) = hallview(&[name]);
+    fs::remove_file(&path).unwrap();
+    assert_eq!(status, Some(0));
+    said.replace(name, "hall.txt")
+}
+
+#[test]
+fn a_trolley_wider_than_gaps_that_stay_open_is_warned_of() {
+    assert_eq!(said_of_width(2), "");
+    let said = said_of_width(4);
+    assert!(said.starts_with("hall.txt: warning: the trolley is 4 cells wide"));
+    let readme = format!("{}/README.md", env!("CARGO_MANIFEST_DIR"));
+    let shown = fs::read_to_string(readme).unwrap();
+    assert!(shown.contains(&format!("    {said}")), "{said}");
+}
+
 #[test]
 fn routes_off_the_floor() {
     let floor = sample("parcels.txt");

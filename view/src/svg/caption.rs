@@ -50,7 +50,7 @@ fn entries(sheet: &Sheet, card: Option<&Card>) -> Vec<(Sample, String)> {
     if hall.floor.places().any(|place| hall.is_narrow(place)) {
         entries.push((
             Sample::Cell("url(#narrow)".into()),
-            "blocked by the trolley's width".into(),
+            "closed by scaling".into(),
         ));
     }
     entries.push((Sample::Cell(shade(UNNAMED)), "open at cost 1".into()));

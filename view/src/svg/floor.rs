@@ -27,7 +27,7 @@ pub fn draw_details(sheet: &mut Sheet) {
     midpoints(sheet);
 }
 
-/// Stripes for cells that the trolley's width blocks.
+/// Stripes for cells that scaling closes.
 fn patterns(sheet: &mut Sheet) {
     sheet.add(
         "<defs><pattern id=\"narrow\" width=\"5\" height=\"5\" patternUnits=\"userSpaceOnUse\" \
@@ -171,7 +171,7 @@ fn grid(sheet: &mut Sheet) {
     ));
 }
 
-/// Blocked cells, and those that the trolley's width blocks. Edges without blur leave no seams.
+/// Blocked cells, and those that scaling closes. Edges without blur leave no seams.
 fn walls(sheet: &mut Sheet) {
     let hall = sheet.hall;
     let fill = |place| match hall.base(place) {
