@@ -1,5 +1,9 @@
 //! The command line.
 
+use std::ffi::OsString;
+
+use hallview::characters::shown;
+
 const USAGE: &str = "usage: hallview FLOOR [options]
   FLOOR                a drawing; or, if its name ends in .hall, a hall file, with or
                        without pairs behind it. - reads a drawing from standard input
@@ -11,7 +15,8 @@ const USAGE: &str = "usage: hallview FLOOR [options]
   --drawing FILE       writes the drawing
   --plain              no colours in the terminal
   --quiet              nothing in the terminal
-  -h, --help           prints this and ends";
+  -h, --help           prints this and ends
+In place of a FILE, - is standard output; then nothing else goes there.";
 
 /// What is asked on the command line.
 #[derive(Default)]
@@ -35,26 +40,29 @@ pub enum Task {
 }
 
 /// Reads the words behind the program's name, or says what is wrong with them.
-pub fn read(mut words: impl Iterator<Item = String>) -> Result<Task, String> {
+pub fn read(words: impl Iterator<Item = OsString>) -> Result<Task, String> {
+    let words: Result<Vec<String>, OsString> = words.map(OsString::into_string).collect();
+    let words = words.map_err(|_| wrong("a word is no text: UTF-8 is".to_string()))?;
+    let mut words = words.into_iter();
     let mut options = Options::default();
     while let Some(word) = words.next() {
         let missing = || wrong(format!("behind {word} something is missing"));
         let mut value = || words.next().ok_or_else(missing);
         match word.as_str() {
             "-h" | "--help" => return Ok(Task::Help(USAGE)),
-            "--route" => options.route = Some((value()?, value()?)),
-            "--pair" => options.pair = Some(pair(&value()?)?),
-            "--svg" => options.svg = Some(value()?),
-            "--hall" => options.hall = Some(value()?),
-            "--input" => options.input = Some(value()?),
-            "--drawing" => options.drawing = Some(value()?),
+            "--route" => set(&word, &mut options.route, (value()?, value()?))?,
+            "--pair" => set(&word, &mut options.pair, pair(&value()?)?)?,
+            "--svg" => set(&word, &mut options.svg, value()?)?,
+            "--hall" => set(&word, &mut options.hall, value()?)?,
+            "--input" => set(&word, &mut options.input, value()?)?,
+            "--drawing" => set(&word, &mut options.drawing, value()?)?,
             "--plain" => options.plain = true,
             "--quiet" => options.quiet = true,
             _ if word.starts_with('-') && word != "-" => {
-                return Err(wrong(format!("there is no option {word}")));
+                return Err(wrong(format!("there is no option {}", shown(&word))));
             }
             _ if !options.floor.is_empty() => {
-                return Err(wrong(format!("{word} is a second floor")));
+                return Err(wrong(format!("{} is a second floor", shown(&word))));
             }
             _ => options.floor = word,
         }
@@ -65,9 +73,17 @@ pub fn read(mut words: impl Iterator<Item = String>) -> Result<Task, String> {
     Ok(Task::Draw(options))
 }
 
+/// Keeps what an option says; it says it once.
+fn set<T>(word: &str, option: &mut Option<T>, value: T) -> Result<(), String> {
+    match option.replace(value) {
+        None => Ok(()),
+        Some(_) => Err(wrong(format!("{word} stands twice"))),
+    }
+}
+
 fn pair(text: &str) -> Result<usize, String> {
     text.parse()
-        .map_err(|_| wrong(format!("--pair takes a number, not {text}")))
+        .map_err(|_| wrong(format!("--pair takes a number, not {}", shown(text))))
 }
 
 fn wrong(what: String) -> String {

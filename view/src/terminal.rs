@@ -5,7 +5,10 @@ use std::iter::repeat;
 use crate::card::Card;
 use crate::floor::{BLOCKED, LENGTH, Place, UNNAMED};
 use crate::hall::{Hall, over};
-use crate::symbols;
+use crate::symbols::{
+    self, BLOCKED_SIGN, CLOSED_SIGN, FIRST_STEPS, LATER_STEP, LEVEL_WINDOW, MIDPOINT, OPEN_SIGN,
+    UPRIGHT_WINDOW,
+};
 use crate::walk::walk;
 
 /// Characters left of the floor, and lines above it.
@@ -13,15 +16,6 @@ const LEFT: usize = 4;
 const TOP: usize = 2;
 /// The most columns of sectors that are drawn with two characters a cell.
 const WIDE_COLUMNS: usize = 3;
-
-const NARROW: char = '░';
-const MIDPOINT: char = '●';
-const UPRIGHT_WINDOW: char = '┊';
-const LEVEL_WINDOW: char = '┈';
-/// The first steps by number. Circled numbers above 20 take two columns of a terminal, so
-/// later steps share a sign.
-const FIRST_STEPS: &str = "①②③④⑤⑥⑦⑧⑨⑩⑪⑫⑬⑭⑮⑯⑰⑱⑲⑳";
-const LATER_STEP: char = '◉';
 
 /// What a character shows, which decides its colour.
 #[derive(Clone, Copy, PartialEq, Eq)]
@@ -131,14 +125,14 @@ impl Canvas<'_> {
         for place in self.hall.floor.places() {
             let cost = self.hall.base(place);
             let (character, ink) = match cost {
-                BLOCKED => ('█', Ink::Plain),
-                _ if self.hall.is_narrow(place) => (NARROW, Ink::Plain),
-                UNNAMED => ('·', Ink::Faint),
+                BLOCKED => (BLOCKED_SIGN, Ink::Plain),
+                _ if self.hall.is_narrow(place) => (CLOSED_SIGN, Ink::Plain),
+                UNNAMED => (OPEN_SIGN, Ink::Faint),
                 _ => (symbols::symbol_of(&table, cost), Ink::Plain),
             };
             let (line, column) = self.spot(place);
             self.put(line, column, character, ink);
-            if self.wide == 2 && "█░".contains(character) {
+            if self.wide == 2 && [BLOCKED_SIGN, CLOSED_SIGN].contains(&character) {
                 self.put(line, column + 1, character, ink);
             }
         }
@@ -281,11 +275,11 @@ fn line_through(sides: u8) -> char {
 }
 
 fn legend(hall: &Hall, card: Option<&Card>) -> String {
-    let mut entries = vec!["█ blocked".to_string()];
+    let mut entries = vec![format!("{BLOCKED_SIGN} blocked")];
     if hall.floor.places().any(|place| hall.is_narrow(place)) {
-        entries.push(format!("{NARROW} closed by scaling"));
+        entries.push(format!("{CLOSED_SIGN} closed by scaling"));
     }
-    entries.push("· open at cost 1".to_string());
+    entries.push(format!("{OPEN_SIGN} open at cost 1"));
     let others = symbols::table(&hall.floor).into_iter();
     for (symbol, cost) in others.filter(|(_, cost)| ![UNNAMED, BLOCKED].contains(cost)) {
         entries.push(format!("{symbol} open at cost {cost}"));

@@ -196,13 +196,84 @@ fn wrong_rows() {
         (3, "....,.....", format!("line 3, column 5: {}", unknown(','))),
         (3, ".\t........", "line 3, column 2: a tab: draw each cell, and use spaces between sectors".to_string()),
         (3, "SG\t.......", "line 3, column 3: a tab: draw each cell, and use spaces between sectors".to_string()),
-        (3, ".\u{1}........", "line 3, column 2: no cell is drawn as `\\u{1}` (the name of a hall file ends in .hall)".to_string()),
         (3, "....|......", "line 3, column 5: a `|` inside a sector, after 4 of its 10 cells".to_string()),
         (3, ". .........", "line 3, column 2: a space inside a sector, after 1 of its 10 cells".to_string()),
         (3, "", "line 3, column 1: an empty line inside a sector, after 2 of its 10 rows".to_string()),
         (3, "----------", "line 3, column 1: a ruling inside a sector, after 2 of its 10 rows".to_string()),
     ];
     assert_rows(&cases);
+}
+
+#[test]
+fn signs_that_hallview_draws_with() {
+    for sign in "█░·●┊┈◉①⑳─│╭┃━┏╋".chars() {
+        let expected = format!(
+            "line 1, column 1: hallview draws with `{sign}` itself: take another character"
+        );
+        assert_eq!(problem(&with_settings(&format!("{sign} = 40\n"))), expected);
+    }
+}
+
+#[test]
+fn control_characters() {
+    let told = |code: &str| {
+        format!(
+            "the control character {code}: a drawing is plain text (the name of a hall file ends in .hall)"
+        )
+    };
+    let escape = told("U+001B");
+    for settings in ["// \u{1b}[31m\n", "sc \u{1b}[31m\n", "ab\u{1b} = 4\n"] {
+        let column = settings.find('\u{1b}').unwrap() + 1;
+        let expected = format!("line 1, column {column}: {escape}");
+        assert_eq!(problem(&with_settings(settings)), expected);
+    }
+    assert_rows(&[
+        (3, "..\u{1b}.......", format!("line 3, column 3: {escape}")),
+        (
+            3,
+            ".\u{0}........",
+            format!("line 3, column 2: {}", told("U+0000")),
+        ),
+        (
+            3,
+            "..........\u{85}",
+            format!("line 3, column 11: {}", told("U+0085")),
+        ),
+    ]);
+}
+
+#[test]
+fn characters_that_shift_a_row() {
+    let wide_combining_and_invisible = [
+        '\u{6f22}',
+        '\u{1f69a}',
+        '\u{ff21}',
+        '\u{301}',
+        '\u{20dd}',
+        '\u{345}',
+        '\u{200b}',
+        '\u{200d}',
+        '\u{202e}',
+        '\u{ad}',
+        '\u{a0}',
+        '\u{2028}',
+        '\u{feff}',
+        '\u{115f}',
+    ];
+    for character in wide_combining_and_invisible {
+        let told = format!(
+            "the character U+{:04X} may not fill one column of a terminal: a drawing has printable ASCII, and Latin, Greek and Cyrillic letters",
+            u32::from(character)
+        );
+        let legend = with_settings(&format!("// {character}\n~{character} = 4\n"));
+        assert_eq!(problem(&legend), format!("line 2, column 2: {told}"));
+        let row = with_row(3, &format!("...{character}......"));
+        assert_eq!(problem(&row), format!("line 3, column 4: {told}"));
+    }
+    for character in "~^äÿŁǆΩжћ".chars() {
+        let text = with_settings(&format!("{character} = 4\n"));
+        assert_eq!(floor(&text).legend, [(character, 4)]);
+    }
 }
 
 #[test]

@@ -90,6 +90,19 @@ fn the_legend_tells_the_signs_of_a_card_that_are_drawn() {
 }
 
 #[test]
+fn no_legend_may_take_a_sign_that_is_drawn() {
+    for (hall, card) in [sample(), winding()] {
+        let text = terminal::draw(&hall, Some(&card), false);
+        let (floor, _) = text.split_once("\n\n").unwrap();
+        for sign in floor.chars().filter(|sign| !"~ \n".contains(*sign)) {
+            let legend = format!("{sign} = 4\n{}", "..........\n".repeat(10));
+            let problem = drawing::read(legend.as_bytes()).unwrap_err();
+            assert_eq!((problem.line, problem.column), (1, 1), "{sign}");
+        }
+    }
+}
+
+#[test]
 fn colours_change_no_character() {
     let (hall, card) = sample();
     let mut plain = String::new();

@@ -1,41 +1,11 @@
 //! What the program says on the command line, and the status it ends with.
 
-use std::path::PathBuf;
-use std::process::Command;
-use std::{env, fs, process};
+#[path = "common/program.rs"]
+mod program;
 
-/// Status, standard output and standard error.
-fn hallview(words: &[&str]) -> (Option<i32>, String, String) {
-    let output = Command::new(env!("CARGO_BIN_EXE_hallview"))
-        .args(words)
-        .output()
-        .unwrap();
-    let text = |bytes| String::from_utf8(bytes).unwrap();
-    (
-        output.status.code(),
-        text(output.stdout),
-        text(output.stderr),
-    )
-}
+use std::fs;
 
-/// The first line on standard error of a call that fails and prints nothing else.
-fn problem(words: &[&str]) -> String {
-    let (status, printed, said) = hallview(words);
-    assert_eq!((status, printed.as_str()), (Some(1), ""), "{words:?}");
-    said.lines().next().unwrap().to_string()
-}
-
-/// A file of the repository's samples.
-fn sample(name: &str) -> String {
-    format!("{}/../sample/{name}", env!("CARGO_MANIFEST_DIR"))
-}
-
-/// A file that a test writes for itself.
-fn written(name: &str, bytes: &[u8]) -> PathBuf {
-    let path = env::temp_dir().join(format!("hallview-{}-{name}", process::id()));
-    fs::write(&path, bytes).unwrap();
-    path
-}
+use program::{Folder, hallview, problem, sample};
 
 #[test]
 fn help_is_no_failure() {
@@ -48,12 +18,13 @@ fn help_is_no_failure() {
 
 #[test]
 fn wrong_words_are_named() {
-    let cases: [(&[&str], &str); 6] = [
+    let cases: [(&[&str], &str); 7] = [
         (&[], "no floor is named"),
         (&["a.txt", "--scale", "3"], "there is no option --scale"),
         (&["-x"], "there is no option -x"),
         (&["a.txt", "b.txt"], "b.txt is a second floor"),
         (&["a.txt", "--svg"], "behind --svg something is missing"),
+        (&["a.txt", "--svg", "a", "--svg", "b"], "--svg stands twice"),
         (
             &["a.txt", "--pair", "two"],
             "--pair takes a number, not two",
@@ -68,12 +39,11 @@ fn wrong_words_are_named() {
 fn said_of_width(width: usize) -> String {
     let text = fs::read_to_string(sample("parcels.txt")).unwrap();
     let text = text.replace("\nwidth 2\n", &format!("\nwidth {width}\n"));
-    let path = written(&format!("width-{width}.txt"), text.as_bytes());
-    let name = path.to_str().unwrap();
-    let (status, _, said) = hallview(&[name]);
-    fs::remove_file(&path).unwrap();
+    let folder = Folder::new(&format!("width-{width}"));
+    let name = folder.written("hall.txt", text);
+    let (status, _, said) = hallview(&[&name]);
     assert_eq!(status, Some(0));
-    said.replace(name, "hall.txt")
+    said.replace(&name, "hall.txt")
 }
 
 #[test]
@@ -112,26 +82,24 @@ fn pairs_that_are_not_there() {
 
 #[test]
 fn spare_bytes_are_told() {
+    let folder = Folder::new("spare");
     let pair = fs::read(sample("two_sectors.hall")).unwrap();
     let whole = hallview(&[&sample("two_sectors.hall")]);
     assert_eq!((whole.0, whole.2.as_str()), (Some(0), ""));
     for (count, spare) in [(1, "1 spare byte"), (3, "3 spare bytes")] {
-        let path = written("spare.hall", &[pair.clone(), vec![0; count]].concat());
-        let name = path.to_str().unwrap();
+        let name = folder.written("spare.hall", [pair.clone(), vec![0; count]].concat());
         let said = format!("{name}: cut: {spare} behind the pairs; a pair has 4 bytes\n");
-        assert_eq!(hallview(&[name]), (Some(0), whole.1.clone(), said));
-        fs::remove_file(path).unwrap();
+        assert_eq!(hallview(&[&name]), (Some(0), whole.1.clone(), said));
     }
 }
 
 #[test]
 fn a_drawing_with_the_name_of_a_hall_file() {
-    let path = written("drawing.hall", &fs::read(sample("parcels.txt")).unwrap());
-    let name = path.to_str().unwrap();
+    let folder = Folder::new("named");
+    let name = folder.written("drawing.hall", fs::read(sample("parcels.txt")).unwrap());
     let expected = format!(
         "{name}: refused 11, columns or rows are outside 1 to 10 \
          (a name that ends in .hall is read as a hall file)"
     );
-    assert_eq!(problem(&[name]), expected);
-    fs::remove_file(path).unwrap();
+    assert_eq!(problem(&[&name]), expected);
 }

@@ -1,5 +1,6 @@
 //! A line of a drawing, which knows where its parts stand.
 
+use crate::characters::{code, fills_one_column};
 use crate::problem::Problem;
 
 /// Lines and columns count from 1; a column is a character.
@@ -12,6 +13,34 @@ pub struct Line<'a> {
 impl<'a> Line<'a> {
     pub fn words(&self) -> Vec<&'a str> {
         self.text.split_whitespace().collect()
+    }
+
+    /// Lines that begin with two slashes are remarks.
+    pub fn is_remark(&self) -> bool {
+        self.text.trim_start().starts_with("//")
+    }
+
+    /// Whether the line has only characters that a drawing may have. A remark may have any
+    /// that can be shown.
+    pub fn check_characters(&self) -> Result<(), Problem> {
+        for (column, character) in (1..).zip(self.text.chars()) {
+            if character.is_control() && character != '\t' {
+                let text = format!(
+                    "the control character {}: a drawing is plain text (the name of a hall file ends in .hall)",
+                    code(character)
+                );
+                return self.problem_at(column, text);
+            }
+            let is_plain = character == '\t' || fills_one_column(character);
+            if !is_plain && !self.is_remark() {
+                let text = format!(
+                    "the character {} may not fill one column of a terminal: a drawing has printable ASCII, and Latin, Greek and Cyrillic letters",
+                    code(character)
+                );
+                return self.problem_at(column, text);
+            }
+        }
+        Ok(())
     }
 
     /// The column behind the last character.

@@ -28,6 +28,7 @@ pub fn read(bytes: &[u8]) -> Result<Drawn, Problem> {
     let (mut settings, mut rows) = (Settings::default(), Rows::default());
     let lines = text.strip_prefix('\u{feff}').unwrap_or(text).lines();
     for (number, text) in (1..).zip(lines) {
+        Line { number, text }.check_characters()?;
         let text = text.trim_end();
         read_line(Line { number, text }, &mut settings, &mut rows)?;
     }
@@ -44,14 +45,13 @@ fn utf8(bytes: &[u8]) -> Result<&str, Problem> {
 }
 
 fn read_line(line: Line, settings: &mut Settings, rows: &mut Rows) -> Result<(), Problem> {
-    let start = line.text.trim_start();
-    if start.starts_with("//") {
+    if line.is_remark() {
         return Ok(());
     }
-    if start.is_empty() {
+    if line.words().is_empty() {
         return rows.between_sectors(line, "an empty line");
     }
-    if start.chars().all(|c| "-+| ".contains(c)) {
+    if line.text.chars().all(|c| "-+| ".contains(c)) {
         return rows.between_sectors(line, "a ruling");
     }
     if settings.read(line)? {

@@ -187,10 +187,6 @@ fn unknown(symbol: char) -> String {
     if symbol == '\t' {
         return "a tab: draw each cell, and use spaces between sectors".to_string();
     }
-    if symbol.is_control() {
-        let code = symbol.escape_default();
-        return format!("no cell is drawn as `{code}` (the name of a hall file ends in .hall)");
-    }
     format!(
         "no cell is drawn as `{symbol}`: cells are # . 0 to 9 S G, and what a legend above the floor names"
     )

@@ -80,6 +80,10 @@ impl Settings {
         if symbols::is_taken(symbol) {
             return line.problem(name, format!("`{symbol}` has a meaning already"));
         }
+        if symbols::is_own(symbol) {
+            let text = format!("hallview draws with `{symbol}` itself: take another character");
+            return line.problem(name, text);
+        }
         if let Some((_, _, before)) = self.legend.iter().find(|entry| entry.0 == symbol) {
             let text = format!("`{symbol}` has a cost already, in line {before}");
             return line.problem(name, text);
