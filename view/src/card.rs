@@ -4,6 +4,7 @@ use proved::{MOST_STEPS, Refusal, Routed};
 
 use crate::floor::Place;
 use crate::hall::{Hall, Window};
+use crate::no_route::NoRoute;
 use crate::symbols;
 use crate::words::counted;
 
@@ -22,7 +23,7 @@ pub struct Step {
 #[derive(Debug, Clone, PartialEq, Eq)]
 pub enum Answer {
     Refused(u8),
-    None,
+    None(NoRoute),
     Route {
         steps: Vec<Step>,
         leg: u32,
@@ -50,7 +51,10 @@ impl Card {
     pub fn of(hall: &Hall, (source, goal): (usize, usize)) -> Card {
         let mut list = [proved::Step::default(); MOST_STEPS];
         let answer = match hall.store.route(source, goal, &mut list) {
-            Ok(Routed::NoRoute) => Answer::None,
+            Ok(Routed::NoRoute) => {
+                let ends = [source, goal].map(|number| hall.floor.place(number));
+                Answer::None(NoRoute::between(hall, ends[0], ends[1]))
+            }
             Ok(Routed::Route { steps, leg, run }) => Answer::Route {
                 steps: steps.iter().map(Step::of).collect(),
                 leg,
@@ -102,7 +106,7 @@ impl Card {
     pub fn line(&self) -> String {
         let answer = match &self.answer {
             Answer::Refused(number) => format!("no {number}"),
-            Answer::None => "none".to_string(),
+            Answer::None(_) => "none".to_string(),
             Answer::Route { steps, leg, run } => {
                 let listed: Vec<String> = steps.iter().map(Step::short).collect();
                 format!("{} {leg} {run} {}", steps.len(), listed.join(" "))
@@ -111,18 +115,37 @@ impl Card {
         format!("{} {} {answer}", self.source, self.goal)
     }
 
-    /// The card in words: what it says in all, then each step.
-    pub fn words(&self) -> (String, Vec<String>) {
+    /// Why there is no route, if there is none.
+    pub fn no_route(&self) -> Option<&NoRoute> {
         match &self.answer {
-            Answer::Refused(23) => ("the source does not lie on the floor".to_string(), vec![]),
-            Answer::Refused(24) => ("the goal does not lie on the floor".to_string(), vec![]),
-            Answer::Refused(number) => (format!("refused: {number}"), vec![]),
-            Answer::None => ("there is no route".to_string(), vec![]),
+            Answer::None(no_route) => Some(no_route),
+            _ => None,
+        }
+    }
+
+    /// What the card says in all.
+    pub fn outcome(&self, hall: &Hall) -> String {
+        match &self.answer {
+            Answer::Refused(23) => "the source does not lie on the floor".to_string(),
+            Answer::Refused(24) => "the goal does not lie on the floor".to_string(),
+            Answer::Refused(number) => format!("refused: {number}"),
+            Answer::None(no_route) => format!("no route: {}", no_route.reason(hall)),
             Answer::Route { steps, leg, run } => {
-                let all = format!("{}, leg {leg}, run {run}", counted(steps.len(), "step"));
-                (all, steps.iter().map(Step::words).collect())
+                format!("{}, leg {leg}, run {run}", counted(steps.len(), "step"))
             }
         }
+    }
+
+    /// What it says one by one: each step with its number, or what keeps source and goal apart.
+    pub fn details(&self, hall: &Hall) -> Vec<String> {
+        if let Some(no_route) = self.no_route() {
+            return no_route.details(hall);
+        }
+        let width = self.steps().len().to_string().len();
+        let steps = (1..).zip(self.steps());
+        steps
+            .map(|(number, step)| format!("{number:>width$}  {}", step.words()))
+            .collect()
     }
 }
 

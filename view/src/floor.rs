@@ -1,5 +1,7 @@
 //! A floor of whole sectors and its base costs.
 
+use crate::characters::shown;
+
 /// Cells along a sector.
 pub const LENGTH: usize = 10;
 /// Cells of a sector.
@@ -56,6 +58,25 @@ impl Floor {
             column * LENGTH + index % LENGTH,
             row * LENGTH + index / LENGTH,
         )
+    }
+
+    /// The floor number that a text names: by itself, or by x,y.
+    pub fn named(&self, text: &str) -> Result<usize, String> {
+        let number = match text.split_once(',') {
+            None => text.parse().ok(),
+            Some((x, y)) => x.parse().ok().zip(y.parse().ok()).and_then(|place| {
+                let (x, y): (usize, usize) = place;
+                (x < self.width() && y < self.height()).then(|| self.number(place))
+            }),
+        };
+        let cells = self.costs.len();
+        number.filter(|number| *number < cells).ok_or(format!(
+            "`{}` is no cell of the floor: floor numbers are 0 to {}, x,y are 0,0 to {},{}",
+            shown(text),
+            cells - 1,
+            self.width() - 1,
+            self.height() - 1
+        ))
     }
 
     /// All places, row by row from the north.

@@ -2,6 +2,7 @@
 
 use std::fmt;
 
+use crate::drawing::Drawn;
 use crate::floor::{BLOCKED, Place};
 use crate::hall::Hall;
 use crate::words::counted;
@@ -69,7 +70,8 @@ pub fn too_narrow(hall: &Hall, width: usize) -> Vec<Gap> {
 }
 
 /// What is to be said of a trolley that is wider than gaps that stay open to it.
-pub fn warning(hall: &Hall, width: usize) -> Option<String> {
+pub fn warning(hall: &Hall, drawn: &Drawn) -> Option<String> {
+    let width = drawn.cells_wide()?;
     let (scale, gaps) = (usize::from(hall.floor.scale), too_narrow(hall, width));
     if width <= scale && gaps.is_empty() {
         return None;
@@ -86,14 +88,18 @@ pub fn warning(hall: &Hall, width: usize) -> Option<String> {
         "the trolley is {} wide, and scale {scale} closes only gaps of fewer than {}; {here}; {}",
         counted(width, "cell"),
         counted(scale, "cell"),
-        remedy(width, scale)
+        remedy(drawn, width, scale)
     ))
 }
 
-fn remedy(width: usize, scale: usize) -> String {
-    match width {
-        _ if width <= scale => "block in the drawing what is too narrow".to_string(),
+fn remedy(drawn: &Drawn, width: usize, scale: usize) -> String {
+    if width <= scale {
+        return "block in the drawing what is too narrow".to_string();
+    }
+    let stated = match width {
         ..=MOST_SCALE => format!("for this trolley take scale {width}"),
         _ => format!("no scale is above {MOST_SCALE}: make the cells larger"),
-    }
+    };
+    let planned = drawn.plan.and_then(|plan| plan.remedy());
+    planned.unwrap_or(stated)
 }

@@ -57,9 +57,5 @@ fn hall_in(name: &str, bytes: &[u8]) -> Result<Drawn, String> {
         let name = shown_name(name);
         eprintln!("{name}: cut: {spare} behind the pairs; a pair has 4 bytes");
     }
-    Ok(Drawn {
-        floor: read.floor,
-        pairs: read.pairs,
-        width: None,
-    })
+    Ok(Drawn::plain(read.floor, read.pairs))
 }

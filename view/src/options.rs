@@ -8,11 +8,13 @@ const USAGE: &str = "usage: hallview FLOOR [options]
   FLOOR                a drawing; or, if its name ends in .hall, a hall file, with or
                        without pairs behind it. - reads a drawing from standard input
   --route SOURCE GOAL  the route to draw, by floor numbers or by x,y
-  --pair N             the N-th pair behind a hall file, from 1 on (otherwise the first)
+  --pair N             the N-th pair of the file, from 1 on (otherwise the first)
+  --all                all pairs of the file: a table in the terminal
   --svg FILE           writes the picture as SVG
+  --pictures FOLDER    writes a picture for each pair asked for: pair-1.svg and so on
   --hall FILE          writes the hall file
-  --input FILE         writes what hallroute reads: the hall file and the pair
-  --drawing FILE       writes the drawing
+  --input FILE         writes what hallroute reads: the hall file and the pairs asked for
+  --drawing FILE       writes the drawing, with the pairs asked for
   --plain              no colours in the terminal
   --quiet              nothing in the terminal
   -h, --help           prints this and ends
@@ -25,6 +27,8 @@ pub struct Options {
     pub floor: String,
     pub route: Option<(String, String)>,
     pub pair: Option<usize>,
+    pub all: bool,
+    pub pictures: Option<String>,
     pub svg: Option<String>,
     pub hall: Option<String>,
     pub input: Option<String>,
@@ -52,6 +56,8 @@ pub fn read(words: impl Iterator<Item = OsString>) -> Result<Task, String> {
             "-h" | "--help" => return Ok(Task::Help(USAGE)),
             "--route" => set(&word, &mut options.route, (value()?, value()?))?,
             "--pair" => set(&word, &mut options.pair, pair(&value()?)?)?,
+            "--all" => options.all = true,
+            "--pictures" => set(&word, &mut options.pictures, value()?)?,
             "--svg" => set(&word, &mut options.svg, value()?)?,
             "--hall" => set(&word, &mut options.hall, value()?)?,
             "--input" => set(&word, &mut options.input, value()?)?,
@@ -67,10 +73,23 @@ pub fn read(words: impl Iterator<Item = OsString>) -> Result<Task, String> {
             _ => options.floor = word,
         }
     }
-    if options.floor.is_empty() {
-        return Err(wrong("no floor is named".to_string()));
-    }
+    check(&options)?;
     Ok(Task::Draw(options))
+}
+
+/// Whether the options go together.
+fn check(options: &Options) -> Result<(), String> {
+    let chosen = [options.route.is_some(), options.pair.is_some(), options.all];
+    let problem = if options.floor.is_empty() {
+        "no floor is named"
+    } else if chosen.iter().filter(|is_chosen| **is_chosen).count() > 1 {
+        "--route, --pair and --all each say which pairs: take one of them"
+    } else if options.all && options.svg.is_some() {
+        "--svg is the picture of one pair: with --all take --pictures FOLDER"
+    } else {
+        return Ok(());
+    };
+    Err(wrong(problem.to_string()))
 }
 
 /// Keeps what an option says; it says it once.

@@ -10,15 +10,18 @@ use hallview::characters::shown;
 /// Standard input and output as files.
 const STANDARD_INPUT: &str = "/dev/stdin";
 const STANDARD_OUTPUT: &str = "/dev/stdout";
+/// The option that names a folder, which is made if it is not there.
+pub const FOLDER: &str = "--pictures";
 /// The most links that are followed from one to the next.
 const MOST_LINKS: usize = 40;
 
 /// What is written, where, and by which option.
-pub struct Output {
-    pub option: &'static str,
+pub struct Output<'a> {
+    option: &'static str,
     /// - is standard output.
-    pub name: String,
-    pub bytes: Vec<u8>,
+    name: String,
+    /// Made when it is written.
+    bytes: Box<dyn Fn() -> Vec<u8> + 'a>,
 }
 
 /// What two names have in common if they lead to the same file.
@@ -30,7 +33,15 @@ enum Identity {
     New(PathBuf),
 }
 
-impl Output {
+impl<'a> Output<'a> {
+    pub fn new(option: &'static str, name: &str, bytes: impl Fn() -> Vec<u8> + 'a) -> Output<'a> {
+        Output {
+            option,
+            name: name.to_string(),
+            bytes: Box::new(bytes),
+        }
+    }
+
     pub fn is_standard(&self) -> bool {
         self.name == "-"
     }
@@ -45,9 +56,14 @@ impl Output {
 
     fn write(&self) -> Result<(), String> {
         if self.is_standard() {
-            return print(&self.bytes);
+            return print(&(self.bytes)());
         }
-        fs::write(&self.name, &self.bytes)
+        let written = match self.option {
+            FOLDER => fs::create_dir_all(folder_of(self.path())),
+            _ => Ok(()),
+        };
+        written
+            .and_then(|()| fs::write(&self.name, (self.bytes)()))
             .map_err(|error| format!("{}: {error}", shown(&self.name)))
     }
 }
@@ -118,7 +134,8 @@ fn identity(path: &Path) -> Identity {
         };
         path = folder_of(&path).join(target);
     }
-    let folder = fs::canonicalize(folder_of(&path)).unwrap_or_default();
+    let folder = folder_of(&path);
+    let folder = fs::canonicalize(&folder).unwrap_or(folder);
     Identity::New(folder.join(path.file_name().unwrap_or_default()))
 }
 

@@ -19,11 +19,21 @@ pub const LEVEL_WINDOW: char = '┈';
 /// later steps share a sign.
 pub const FIRST_STEPS: &str = "①②③④⑤⑥⑦⑧⑨⑩⑪⑫⑬⑭⑮⑯⑰⑱⑲⑳";
 pub const LATER_STEP: char = '◉';
+/// A cell that the source reaches, and one in the way, where there is no route.
+pub const REACHED_SIGN: char = '+';
+pub const CLOSING_SIGN: char = '×';
 
 /// Whether hallview draws with a character: with those above, and with lines.
 pub fn is_own(symbol: char) -> bool {
     let is_line = ('\u{2500}'..='\u{257f}').contains(&symbol);
-    let signs = [BLOCKED_SIGN, CLOSED_SIGN, OPEN_SIGN, MIDPOINT, LATER_STEP];
+    let signs = [
+        BLOCKED_SIGN,
+        CLOSED_SIGN,
+        OPEN_SIGN,
+        MIDPOINT,
+        LATER_STEP,
+        CLOSING_SIGN,
+    ];
     is_line || signs.contains(&symbol) || FIRST_STEPS.contains(symbol)
 }
 

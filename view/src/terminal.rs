@@ -5,9 +5,11 @@ use std::iter::repeat;
 use crate::card::Card;
 use crate::floor::{BLOCKED, LENGTH, Place, UNNAMED};
 use crate::hall::{Hall, over};
+use crate::no_route::NoRoute;
+use crate::scene::Scene;
 use crate::symbols::{
-    self, BLOCKED_SIGN, CLOSED_SIGN, FIRST_STEPS, LATER_STEP, LEVEL_WINDOW, MIDPOINT, OPEN_SIGN,
-    UPRIGHT_WINDOW,
+    self, BLOCKED_SIGN, CLOSED_SIGN, CLOSING_SIGN, FIRST_STEPS, LATER_STEP, LEVEL_WINDOW, MIDPOINT,
+    OPEN_SIGN, REACHED_SIGN, UPRIGHT_WINDOW,
 };
 use crate::walk::walk;
 
@@ -49,18 +51,30 @@ struct Canvas<'a> {
 }
 
 /// The floor, its legend and the card as lines; with colours if the terminal shows them.
-pub fn draw(hall: &Hall, card: Option<&Card>, colours: bool) -> String {
+pub fn draw(scene: Scene, colours: bool) -> String {
+    let (hall, card) = (scene.hall, scene.card);
     let mut canvas = Canvas::empty(hall);
     canvas.scales();
     canvas.cells();
     canvas.borders();
+    if let Some(no_route) = card.and_then(Card::no_route) {
+        canvas.area(no_route);
+    }
     let way = card.map(|card| walk(hall, card)).unwrap_or_default();
     canvas.way(&way);
     canvas.midpoints();
+    if let Some(no_route) = card.and_then(Card::no_route) {
+        canvas.closing(no_route);
+    }
     if let Some(card) = card {
         canvas.steps(card);
     }
-    canvas.text(colours) + "\n" + &legend(hall, card) + &card.map(words).unwrap_or_default()
+    let planned = scene.planned.map(|text| format!("\n{text}\n"));
+    canvas.text(colours)
+        + "\n"
+        + &legend(hall, card)
+        + &planned.unwrap_or_default()
+        + &card.map(|card| words(hall, card)).unwrap_or_default()
 }
 
 impl Canvas<'_> {
@@ -134,6 +148,23 @@ impl Canvas<'_> {
             self.put(line, column, character, ink);
             if self.wide == 2 && [BLOCKED_SIGN, CLOSED_SIGN].contains(&character) {
                 self.put(line, column + 1, character, ink);
+            }
+        }
+    }
+
+    /// The area that the source reaches.
+    fn area(&mut self, no_route: &NoRoute) {
+        for place in &no_route.reached {
+            self.put_cell(*place, REACHED_SIGN, Ink::End);
+        }
+    }
+
+    /// The cells that keep source and goal apart.
+    fn closing(&mut self, no_route: &NoRoute) {
+        for place in &no_route.closing {
+            let (line, column) = self.spot(*place);
+            for column in column..column + self.wide {
+                self.put(line, column, CLOSING_SIGN, Ink::Way);
             }
         }
     }
@@ -306,6 +337,12 @@ fn card_legend(hall: &Hall, card: &Card) -> Vec<String> {
     if card.has_way() {
         entries.push("─ a way to drive it".to_string());
     }
+    if let Some(no_route) = card.no_route() {
+        if !no_route.reached.is_empty() {
+            entries.push(format!("{REACHED_SIGN} the source reaches it"));
+        }
+        entries.push(format!("{CLOSING_SIGN} in the way"));
+    }
     entries
 }
 
@@ -323,13 +360,11 @@ fn wrapped(entries: &[String]) -> String {
     lines.join("\n") + "\n"
 }
 
-/// The card and its steps in words.
-fn words(card: &Card) -> String {
-    let (all, steps) = card.words();
-    let mut text = format!("\n{}\n  {all}\n", card.line());
-    let width = steps.len().to_string().len();
-    for (number, step) in (1..).zip(steps) {
-        text.push_str(&format!("  {number:>width$}  {step}\n"));
+/// The card as a line, and in words.
+fn words(hall: &Hall, card: &Card) -> String {
+    let mut text = format!("\n{}\n  {}\n", card.line(), card.outcome(hall));
+    for detail in card.details(hall) {
+        text.push_str(&format!("  {detail}\n"));
     }
     text
 }

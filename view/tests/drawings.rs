@@ -110,7 +110,7 @@ fn wrong_settings() {
         ),
         (
             " weight 2\n",
-            "line 1, column 2: no setting is called `weight`: there are `scale 2`, `width 2` and legends such as `~ = 40`",
+            "line 1, column 2: no setting is called `weight`: there are `scale`, `width`, `metres`, `pair` and legends such as `~ = 40`",
         ),
         (
             "width 0\n",
@@ -349,6 +349,7 @@ fn a_drawing_that_is_written_reads_as_the_same_floor() {
         floor,
         pairs: vec![(0, 599)],
         width: Some(4),
+        plan: None,
     };
     let mut drawn = read(write(&given).as_bytes()).unwrap();
     // Its legend gives a character to costs that had none.
@@ -357,17 +358,15 @@ fn a_drawing_that_is_written_reads_as_the_same_floor() {
     assert_eq!(drawn, given);
 }
 
-/// A floor whose ends cannot both be marked is written without marks.
+/// A pair whose ends cannot both be marked is written as a line.
 fn assert_unmarked(floor: &Floor, pair: (usize, usize)) {
-    let given = Drawn {
-        floor: floor.clone(),
-        pairs: vec![pair],
-        width: None,
-    };
-    let drawn = read(write(&given).as_bytes()).unwrap();
+    let given = Drawn::plain(floor.clone(), vec![pair]);
+    let text = write(&given);
+    assert!(!text.contains(['S', 'G']) && text.contains("\npair "));
+    let drawn = read(text.as_bytes()).unwrap();
     assert_eq!(
         (drawn.floor.costs, drawn.pairs),
-        (floor.costs.clone(), vec![])
+        (floor.costs.clone(), vec![pair])
     );
 }
 
@@ -380,6 +379,35 @@ fn ends_are_marked_only_on_two_cells_of_cost_1() {
         assert_unmarked(&floor, (99, 70));
     }
     assert_unmarked(&floor, (44, 44));
+}
+
+#[test]
+fn pairs_are_listed_above_the_floor() {
+    let text = with_row(2, "|..S...G...|");
+    let pairs = "pair 0,0 9,9\npair 7 8,0\npair 3,3 3,3\n";
+    let drawn = read(format!("{pairs}{text}").as_bytes()).unwrap();
+    assert_eq!(drawn.pairs, [(12, 16), (0, 99), (7, 8), (33, 33)]);
+    assert_eq!(read(write(&drawn).as_bytes()), Ok(drawn));
+    let off = Drawn::plain(floor(&text), vec![(12, 100), (0, 5)]);
+    assert_eq!(read(write(&off).as_bytes()).unwrap().pairs, [(0, 5)]);
+}
+
+#[test]
+fn wrong_pairs() {
+    let form = "after `pair` stand a source and a goal, as in `pair 1,1 8,8`";
+    let range = "floor numbers are 0 to 99, x,y are 0,0 to 9,9";
+    let cases = ["pair\n", "pair 1\n", "pair 1 2 3\n"];
+    for settings in cases {
+        assert_eq!(
+            problem(&with_settings(settings)),
+            format!("line 1, column 1: {form}")
+        );
+    }
+    for (settings, column, cell) in [("pair 0 100\n", 8, "100"), ("pair 10,0 3\n", 6, "10,0")] {
+        let expected =
+            format!("line 1, column {column}: `{cell}` is no cell of the floor: {range}");
+        assert_eq!(problem(&with_settings(settings)), expected);
+    }
 }
 
 #[test]

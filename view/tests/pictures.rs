@@ -5,6 +5,7 @@ mod common;
 use common::repository_text;
 use hallview::card::Card;
 use hallview::hall::Hall;
+use hallview::scene::Scene;
 use hallview::{drawing, svg, terminal};
 
 fn sample() -> (Hall, Card) {
@@ -18,7 +19,7 @@ fn sample() -> (Hall, Card) {
 fn the_picture_in_docs_is_that_of_the_sample() {
     let (hall, card) = sample();
     assert!(
-        svg::draw(&hall, Some(&card)) == repository_text("docs/hall.svg"),
+        svg::draw(Scene::of(&hall, Some(&card))) == repository_text("docs/hall.svg"),
         "run view/pictures.sh"
     );
 }
@@ -27,7 +28,7 @@ fn the_picture_in_docs_is_that_of_the_sample() {
 fn the_terminal_shows_the_sample() {
     let (hall, card) = sample();
     assert!(
-        terminal::draw(&hall, Some(&card), false) == repository_text("docs/hall.txt"),
+        terminal::draw(Scene::of(&hall, Some(&card)), false) == repository_text("docs/hall.txt"),
         "run view/pictures.sh"
     );
 }
@@ -53,7 +54,7 @@ fn late_steps_take_one_column_and_are_listed_by_number() {
     let (hall, card) = winding();
     let count = card.steps().len();
     assert!(count > 50);
-    let text = terminal::draw(&hall, Some(&card), false);
+    let text = terminal::draw(Scene::of(&hall, Some(&card)), false);
     let (floor, below) = text.split_once("\n\n").unwrap();
     let signs = |wanted: char| floor.chars().filter(|sign| *sign == wanted).count();
     assert_eq!((signs('①'), signs('⑳')), (1, 1));
@@ -74,7 +75,7 @@ fn the_legend_tells_the_signs_of_a_card_that_are_drawn() {
         "◉ step after the 20th",
     ];
     let assert_told = |hall: &Hall, card: Option<&Card>, told: usize| {
-        let text = terminal::draw(hall, card, false);
+        let text = terminal::draw(Scene::of(hall, card), false);
         for (at, sign) in signs.iter().enumerate() {
             assert_eq!(text.contains(sign), at < told, "{sign}");
         }
@@ -85,14 +86,14 @@ fn the_legend_tells_the_signs_of_a_card_that_are_drawn() {
     assert_told(&hall, Some(&Card::of(&hall, (card.source, blocked))), 2);
     assert_told(&hall, Some(&card), 4);
     assert_told(&long, Some(&long_card), 5);
-    let standing = terminal::draw(&hall, Some(&Card::of(&hall, (344, 344))), false);
+    let standing = terminal::draw(Scene::of(&hall, Some(&Card::of(&hall, (344, 344)))), false);
     assert!(standing.contains("S source and goal\n"));
 }
 
 #[test]
 fn no_legend_may_take_a_sign_that_is_drawn() {
     for (hall, card) in [sample(), winding()] {
-        let text = terminal::draw(&hall, Some(&card), false);
+        let text = terminal::draw(Scene::of(&hall, Some(&card)), false);
         let (floor, _) = text.split_once("\n\n").unwrap();
         for sign in floor.chars().filter(|sign| !"~ \n".contains(*sign)) {
             let legend = format!("{sign} = 4\n{}", "..........\n".repeat(10));
@@ -106,7 +107,7 @@ fn no_legend_may_take_a_sign_that_is_drawn() {
 fn colours_change_no_character() {
     let (hall, card) = sample();
     let mut plain = String::new();
-    for (at, part) in terminal::draw(&hall, Some(&card), true)
+    for (at, part) in terminal::draw(Scene::of(&hall, Some(&card)), true)
         .split("\x1b[")
         .enumerate()
     {
@@ -117,7 +118,7 @@ fn colours_change_no_character() {
         };
         plain.push_str(text);
     }
-    assert_eq!(plain, terminal::draw(&hall, Some(&card), false));
+    assert_eq!(plain, terminal::draw(Scene::of(&hall, Some(&card)), false));
 }
 
 #[test]
@@ -125,7 +126,7 @@ fn many_costs_are_shown_as_a_range() {
     let assert_shown = |costs: &str, shown: &[&str], hidden: &str| {
         let text = format!("x = 10\n{costs}\n") + &"..........\n".repeat(9);
         let hall = Hall::build(drawing::read(text.as_bytes()).unwrap().floor);
-        let picture = svg::draw(&hall, None);
+        let picture = svg::draw(Scene::of(&hall, None));
         let shows = |text: &str| picture.contains(&format!(">{text}</text>"));
         assert!(shown.iter().all(|text| shows(text)) && !shows(hidden));
     };
@@ -141,7 +142,7 @@ fn many_costs_are_shown_as_a_range() {
 #[test]
 fn every_element_of_the_picture_is_closed() {
     let (hall, card) = sample();
-    let text = svg::draw(&hall, Some(&card));
+    let text = svg::draw(Scene::of(&hall, Some(&card)));
     let mut open = vec![];
     for tag in text.split('<').skip(1) {
         let (inside, _) = tag.split_once('>').unwrap();

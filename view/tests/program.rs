@@ -103,3 +103,142 @@ fn a_drawing_with_the_name_of_a_hall_file() {
     );
     assert_eq!(problem(&[&name]), expected);
 }
+
+/// The numbers of each line behind source and goal, or none.
+fn numbers_of(line: &str) -> Vec<String> {
+    let words = line
+        .split_whitespace()
+        .filter(|word| !word.starts_with('('));
+    let numbers = words.take_while(|word| word.parse::<u32>().is_ok());
+    numbers.map(str::to_string).collect()
+}
+
+#[test]
+fn all_pairs_are_a_table() {
+    for name in ["chutes.hall", "corner_gate.hall", "two_sectors.hall"] {
+        let (status, table, said) = hallview(&[&sample(name), "--all"]);
+        assert_eq!((status, said.as_str()), (Some(0), ""));
+        let cards = second::hallroute(&fs::read(sample(name)).unwrap());
+        let cards = String::from_utf8(cards).unwrap();
+        let rows = table.lines().skip(1);
+        for (number, (card, row)) in (1..).zip(cards.lines().zip(rows)) {
+            let card = numbers_of(card);
+            let mut expected = [vec![number.to_string()], card.clone()].concat();
+            if let [_, _, _, leg, run] = &card[..] {
+                let moves = leg.parse::<u32>().unwrap() + run.parse::<u32>().unwrap();
+                expected.push(moves.to_string());
+            }
+            assert_eq!(numbers_of(row), expected, "{row}");
+        }
+        let count = cards.lines().count();
+        let last = format!("{count} pair{}, ", if count == 1 { "" } else { "s" });
+        assert!(table.lines().last().unwrap().starts_with(&last));
+    }
+}
+
+#[test]
+fn a_pair_without_a_route_says_why_in_the_table() {
+    let folder = Folder::new("why");
+    let rows = "....#.....\n".repeat(10);
+    let name = folder.written("why.txt", format!("pair 0,0 9,9\npair 0,0 4,4\n{rows}"));
+    let table = hallview(&[&name, "--all"]).1;
+    let lines: Vec<&str> = table.lines().collect();
+    assert!(
+        lines[1].ends_with("99 (9,9)  no route: the source reaches 40 cells; in the way: 4,9"),
+        "{table}"
+    );
+    assert!(
+        lines[2].ends_with("44 (4,4)  no route: the goal 4,4 is blocked"),
+        "{table}"
+    );
+    assert_eq!(lines[4], "2 pairs, 0 routes");
+}
+
+#[test]
+fn each_pair_has_its_picture() {
+    let folder = Folder::new("each");
+    let pictures = folder.name("new/folder");
+    let floor = sample("chutes.hall");
+    assert_eq!(
+        hallview(&[&floor, "--all", "--pictures", &pictures]).0,
+        Some(0)
+    );
+    let count = fs::read_dir(&pictures).unwrap().count();
+    assert!(count > 1);
+    for number in 1..=count {
+        let picture = fs::read_to_string(format!("{pictures}/pair-{number}.svg")).unwrap();
+        let one = hallview(&[&floor, "--pair", &number.to_string(), "--svg", "-"]).1;
+        assert_eq!(picture, one);
+    }
+    let second = folder.name("second");
+    hallview(&[&floor, "--pair", "2", "--pictures", &second]);
+    assert_eq!(fs::read_dir(&second).unwrap().count(), 1);
+    assert!(fs::exists(format!("{second}/pair-2.svg")).unwrap());
+}
+
+#[test]
+fn all_pairs_are_written() {
+    let folder = Folder::new("written");
+    let floor = sample("chutes.hall");
+    let [input, drawing] = [folder.name("input.hall"), folder.name("drawing.txt")];
+    hallview(&[
+        &floor,
+        "--all",
+        "--quiet",
+        "--input",
+        &input,
+        "--drawing",
+        &drawing,
+    ]);
+    let table = |floor: &str| hallview(&[floor, "--all"]).1;
+    assert_eq!(table(&input), table(&floor));
+    assert_eq!(table(&drawing), table(&floor));
+}
+
+#[test]
+fn the_first_of_several_pairs_is_said_to_be_it() {
+    let chutes = hallview(&[&sample("chutes.hall")]).1;
+    assert!(
+        chutes
+            .lines()
+            .last()
+            .unwrap()
+            .starts_with("This is pair 1 of ")
+    );
+    let chosen = hallview(&[&sample("chutes.hall"), "--pair", "1"]).1;
+    assert!(!chosen.contains("This is pair") && chutes.starts_with(&chosen));
+    assert!(
+        !hallview(&[&sample("parcels.txt")])
+            .1
+            .contains("This is pair")
+    );
+}
+
+#[test]
+fn pairs_are_asked_for_in_one_way() {
+    let one = "--route, --pair and --all each say which pairs: take one of them";
+    assert_eq!(problem(&["a.txt", "--all", "--pair", "1"]), one);
+    assert_eq!(problem(&["a.txt", "--all", "--route", "1", "2"]), one);
+    assert_eq!(problem(&["a.txt", "--pair", "1", "--route", "1", "2"]), one);
+    let picture = "--svg is the picture of one pair: with --all take --pictures FOLDER";
+    assert_eq!(problem(&["a.txt", "--all", "--svg", "a.svg"]), picture);
+    let folder = Folder::new("none");
+    let name = folder.written("none.txt", "..........\n".repeat(10));
+    assert_eq!(problem(&[&name, "--all"]), format!("{name} has no pairs"));
+}
+
+#[test]
+fn the_readme_shows_what_is_printed() {
+    let readme = format!("{}/README.md", env!("CARGO_MANIFEST_DIR"));
+    let readme = fs::read_to_string(readme).unwrap();
+    let closed = sample("closed.txt");
+    let table = hallview(&[&closed, "--all"]).1;
+    assert!(readme.contains(&format!("```\n{table}```\n")), "{table}");
+    let shown = hallview(&[&closed, "--pair", "3"]).1;
+    let (_, card) = shown.rsplit_once("\n\n").unwrap();
+    assert!(readme.contains(&format!("```\n{card}```\n")), "{card}");
+    let folder = Folder::new("readme");
+    let name = folder.written("hall.txt", "metres 30 20 unit 1 width 9.5\n");
+    let refused = problem(&[&name]).replace(&name, "hall.txt");
+    assert!(readme.contains(&format!("    {refused}\n")), "{refused}");
+}

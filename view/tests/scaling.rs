@@ -5,9 +5,9 @@ mod common;
 
 use common::{Draw, drawn_hall, repository_text};
 use hallview::card::{Answer, Card};
-use hallview::drawing;
+use hallview::drawing::{self, Drawn};
 use hallview::floor::{Floor, Place, sector_of};
-use hallview::gaps::{DUTY, RULE, warning};
+use hallview::gaps::{self, DUTY, RULE};
 use hallview::hall::Hall;
 use hallview::words::counted;
 
@@ -165,6 +165,13 @@ fn what_lies_behind_a_cell_already_closed_can_stay_open() {
         told.contains("3 cells from 0,5 to 2,5; block in the drawing"),
         "{told}"
     );
+}
+
+/// The warning for a trolley that is some cells wide.
+fn warning(hall: &Hall, width: usize) -> Option<String> {
+    let mut drawn = Drawn::plain(hall.floor.clone(), vec![]);
+    drawn.width = Some(width);
+    gaps::warning(hall, &drawn)
 }
 
 #[test]

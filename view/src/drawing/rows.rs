@@ -143,12 +143,9 @@ impl Rows {
         Ok(())
     }
 
-    /// The rows, if they are whole sectors.
+    /// The rows, if they are whole sectors; there may be none.
     pub fn whole(&self) -> Result<&[Vec<u8>], Problem> {
         let rows = self.costs.len();
-        if rows == 0 {
-            return Problem::at(1, 1, "no row of a floor is drawn");
-        }
         if !rows.is_multiple_of(LENGTH) {
             let text = format!(
                 "the floor ends after {rows} rows: it is whole sectors of 10, so {}",

@@ -1,9 +1,13 @@
-//! The settings above a floor: the scale, the trolley's width, and the legend.
+//! The settings above a floor: scale and width or a plan in metres, pairs, and the legend.
 
 use std::ops::RangeInclusive;
 
+use proved::Measures;
+
 use super::line::Line;
-use crate::floor::{LENGTH, MOST_SECTORS};
+use super::metres;
+use crate::floor::{Floor, LENGTH, MOST_SECTORS};
+use crate::plan::Plan;
 use crate::problem::Problem;
 use crate::symbols;
 
@@ -12,23 +16,76 @@ type Stated = Option<(usize, usize)>;
 
 /// What has been read of the settings.
 #[derive(Default)]
-pub struct Settings {
+pub struct Settings<'a> {
     scale: Stated,
     width: Stated,
+    metres: Option<Planned>,
+    /// Lines that name a pair. Their cells are looked for when the floor is known.
+    pairs: Vec<Line<'a>>,
     /// Character, cost and line of each entry.
     legend: Vec<(char, u8, usize)>,
 }
 
-impl Settings {
+/// A plan, what it comes to, and the line that it stands in.
+#[derive(Clone, Copy)]
+pub struct Planned {
+    pub plan: Plan,
+    pub measures: Measures,
+    pub line: usize,
+}
+
+impl Planned {
+    /// Cells across and down.
+    pub fn cells(self) -> (usize, usize) {
+        let cells = |sectors: u8| usize::from(sectors) * LENGTH;
+        (cells(self.measures.columns), cells(self.measures.rows))
+    }
+}
+
+impl<'a> Settings<'a> {
     /// Reads a line if it begins with the name of a setting or holds a `=`, and says whether it did.
-    pub fn read(&mut self, line: Line) -> Result<bool, Problem> {
+    pub fn read(&mut self, line: Line<'a>) -> Result<bool, Problem> {
         match line.words().first().copied() {
             Some("scale") => number(line, &mut self.scale, 1..=9)?,
             Some("width") => number(line, &mut self.width, 1..=MOST_SECTORS * LENGTH)?,
+            Some("metres") => self.plan(line)?,
+            Some("pair") => self.pairs.push(line),
             Some(_) if line.text.contains('=') => self.entry(line)?,
             _ => return Ok(false),
         }
+        self.one_source_of_scale(line)?;
         Ok(true)
+    }
+
+    fn plan(&mut self, line: Line) -> Result<(), Problem> {
+        if let Some(before) = self.metres {
+            let text = format!("a second plan: line {} has one", before.line);
+            return line.problem_at(1, text);
+        }
+        let plan = metres::read(line)?;
+        match plan.measures() {
+            Err(text) => line.problem_at(1, text),
+            Ok(measures) => {
+                self.metres = Some(Planned {
+                    plan,
+                    measures,
+                    line: line.number,
+                });
+                Ok(())
+            }
+        }
+    }
+
+    /// A plan gives the scale and the trolley's width, so nothing else may.
+    fn one_source_of_scale(&self, line: Line) -> Result<(), Problem> {
+        let stated = [(self.scale, "scale"), (self.width, "width")];
+        match stated.into_iter().find(|(stated, _)| stated.is_some()) {
+            Some((Some((_, stands)), name)) if self.metres.is_some() => {
+                let text = format!("`metres` gives the {name}: leave out line {stands}");
+                line.problem_at(1, text)
+            }
+            _ => Ok(()),
+        }
     }
 
     /// A line that has a word and something behind it, and is no row, is meant as a setting.
@@ -41,7 +98,7 @@ impl Settings {
             return Ok(());
         }
         let text = format!(
-            "no setting is called `{}`: there are `scale 2`, `width 2` and legends such as `~ = 40`",
+            "no setting is called `{}`: there are `scale`, `width`, `metres`, `pair` and legends such as `~ = 40`",
             words[0]
         );
         line.problem(words[0], text)
@@ -53,13 +110,24 @@ impl Settings {
         symbols::fixed_cost(symbol).or(named.map(|entry| entry.1))
     }
 
+    pub fn planned(&self) -> Option<Planned> {
+        self.metres
+    }
+
     pub fn scale(&self) -> u8 {
-        self.scale.map_or(1, |(scale, _)| scale as u8)
+        let stated = self.scale.map_or(1, |(scale, _)| scale as u8);
+        self.metres.map_or(stated, |metres| metres.measures.scale)
     }
 
     /// The trolley's width in cells.
     pub fn width(&self) -> Option<usize> {
         self.width.map(|(width, _)| width)
+    }
+
+    /// The pairs by floor number.
+    pub fn pairs(&self, floor: &Floor) -> Result<Vec<(usize, usize)>, Problem> {
+        let pairs = self.pairs.iter();
+        pairs.map(|line| pair(*line, floor)).collect()
     }
 
     pub fn legend(&self) -> Vec<(char, u8)> {
@@ -117,6 +185,17 @@ fn number(line: Line, stated: &mut Stated, range: RangeInclusive<usize>) -> Resu
         }
     }
     Ok(())
+}
+
+/// `pair`, a source and a goal.
+fn pair(line: Line, floor: &Floor) -> Result<(usize, usize), Problem> {
+    let words = line.words();
+    let [_, source, goal] = words[..] else {
+        let text = "after `pair` stand a source and a goal, as in `pair 1,1 8,8`";
+        return line.problem_at(1, text);
+    };
+    let number = |word: &str| floor.named(word).or_else(|text| line.problem(word, text));
+    Ok((number(source)?, number(goal)?))
 }
 
 fn legend_cost(line: Line, cost: &str) -> Result<u8, Problem> {

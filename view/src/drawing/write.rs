@@ -12,16 +12,34 @@ fn marks(floor: &Floor, (source, goal): (usize, usize)) -> Option<(Place, Place)
     can_mark.then(|| (floor.place(source), floor.place(goal)))
 }
 
-/// The drawing of a floor, with rulings between sectors; its first pair is marked if it can be.
+/// The drawing of a floor, with rulings between sectors; its first pair is marked if it can be,
+/// and the other pairs on the floor are listed.
 pub fn write(drawn: &Drawn) -> String {
     let floor = &drawn.floor;
     let table = symbols::table(floor);
     let ends = drawn.pairs.first().and_then(|pair| marks(floor, *pair));
-    settings(drawn, &table) + "\n" + &rows(floor, &table, ends)
+    let listed = &drawn.pairs[usize::from(ends.is_some())..];
+    settings(drawn, &table) + &pairs(floor, listed) + "\n" + &rows(floor, &table, ends)
+}
+
+fn pairs(floor: &Floor, pairs: &[(usize, usize)]) -> String {
+    let on_floor = |number: usize| number < floor.costs.len();
+    let named = |number| {
+        let (x, y) = floor.place(number);
+        format!("{x},{y}")
+    };
+    let pairs = pairs.iter();
+    pairs
+        .filter(|(source, goal)| on_floor(*source) && on_floor(*goal))
+        .map(|(source, goal)| format!("pair {} {}\n", named(*source), named(*goal)))
+        .collect()
 }
 
 fn settings(drawn: &Drawn, table: &[(char, u8)]) -> String {
-    let mut text = format!("scale {}\n", drawn.floor.scale);
+    let mut text = match drawn.plan {
+        Some(plan) => plan.line() + "\n",
+        None => format!("scale {}\n", drawn.floor.scale),
+    };
     if let Some(width) = drawn.width {
         text.push_str(&format!("width {width}\n"));
     }

@@ -1,9 +1,10 @@
 //! The title, the legend and the card below the floor.
 
+use super::apart::closing;
 use super::route::{badge, end};
 use super::{
-    CELL, FAINT, INK, LEFT, MONO, MONO_WIDTH, ROUTE, SANS_WIDTH, STEP_WINDOW, Sheet, WALL, WINDOW,
-    bar, circle, label, line, rect,
+    CELL, FAINT, INK, LEFT, MONO, MONO_WIDTH, REACHED, ROUTE, SANS_WIDTH, STEP_WINDOW, Sheet, WALL,
+    WINDOW, bar, circle, label, line, rect,
 };
 use crate::card::Card;
 use crate::floor::{BLOCKED, Floor, UNNAMED};
@@ -23,6 +24,7 @@ enum Sample {
     Way,
     Step,
     End(char),
+    Closing,
 }
 
 pub fn draw(sheet: &mut Sheet, card: Option<&Card>) {
@@ -89,6 +91,13 @@ fn card_entries(hall: &Hall, card: &Card) -> Vec<(Sample, String)> {
     if card.has_way() {
         entries.push((Sample::Way, "a way to drive it".into()));
     }
+    if let Some(no_route) = card.no_route() {
+        if !no_route.reached.is_empty() {
+            let reached = Sample::Cell(REACHED.into());
+            entries.push((reached, "reached from the source".into()));
+        }
+        entries.push((Sample::Closing, "in the way".into()));
+    }
     entries
 }
 
@@ -142,6 +151,7 @@ fn draw_sample(sample: Sample) -> String {
         ),
         Sample::Step => badge((0.0, 0.0), 1, 1.0),
         Sample::End(letter) => end((0.0, 0.0), letter),
+        Sample::Closing => closing((0.0, 0.0)),
     }
 }
 
@@ -154,13 +164,9 @@ fn lines(sheet: &mut Sheet, card: &Card) {
         mono(sheet, LEFT, &text, INK);
         sheet.bottom += size * 1.4;
     }
-    let (all, steps) = card.words();
-    mono(sheet, LEFT, &all, FAINT);
+    mono(sheet, LEFT, &card.outcome(sheet.hall), FAINT);
     sheet.bottom += size * 1.4;
-    let steps: Vec<String> = (1..)
-        .zip(steps)
-        .map(|(number, step)| format!("{number:>3}  {step}"))
-        .collect();
+    let steps = card.details(sheet.hall);
     let longest = steps.iter().map(String::len).max().unwrap_or(1) + 3;
     let columns = (room / longest).clamp(1, steps.len().max(1));
     let deep = steps.len().div_ceil(columns);

@@ -92,7 +92,7 @@ pub fn shade(cost: u8) -> String {
 }
 
 /// Runs of equal cells of a row, as (x, y, length, what), where what is not none.
-fn runs<T: PartialEq + Clone>(
+pub fn runs<T: PartialEq + Clone>(
     sheet: &Sheet,
     what: impl Fn((usize, usize)) -> Option<T>,
 ) -> Vec<((usize, usize), usize, T)> {

@@ -1,5 +1,6 @@
 //! A floor as an SVG picture, for screens and for print.
 
+mod apart;
 mod caption;
 mod floor;
 mod route;
@@ -9,6 +10,7 @@ use std::fmt::Display;
 use crate::card::Card;
 use crate::floor::{LENGTH, Place};
 use crate::hall::Hall;
+use crate::scene::Scene;
 
 /// Length of a cell, and of the strips around the floor.
 const CELL: f64 = 18.0;
@@ -25,6 +27,8 @@ const WINDOW: &str = "#00786f";
 const STEP_WINDOW: &str = "#f59f00";
 const ROUTE: &str = "#c2185b";
 const END: &str = "#1a4fa0";
+const REACHED: &str = "#d6e4f7";
+const CLOSING: &str = "#d1242f";
 
 const SANS: &str = "Helvetica, Arial, 'Liberation Sans', sans-serif";
 const MONO: &str = "'DejaVu Sans Mono', Menlo, Consolas, 'Liberation Mono', monospace";
@@ -42,7 +46,8 @@ struct Sheet<'a> {
 }
 
 /// The picture of a hall, and of a card on it.
-pub fn draw(hall: &Hall, card: Option<&Card>) -> String {
+pub fn draw(scene: Scene) -> String {
+    let (hall, card) = (scene.hall, scene.card);
     let floor_width = hall.floor.width() as f64 * CELL;
     let mut sheet = Sheet {
         hall,
@@ -50,11 +55,18 @@ pub fn draw(hall: &Hall, card: Option<&Card>) -> String {
         width: LEFT + floor_width.max(LEAST_WIDTH) + EDGE,
         bottom: TOP + hall.floor.height() as f64 * CELL,
     };
+    let no_route = card.and_then(Card::no_route);
+    if let Some(no_route) = no_route {
+        apart::draw_area(&mut sheet, no_route);
+    }
     floor::draw(&mut sheet);
     if let Some(card) = card {
         route::draw_way(&mut sheet, card);
     }
     floor::draw_details(&mut sheet);
+    if let Some(no_route) = no_route {
+        apart::draw_closing(&mut sheet, no_route);
+    }
     if let Some(card) = card {
         route::draw_marks(&mut sheet, card);
     }
