@@ -10,7 +10,7 @@ use hallview::drawing::{self, Drawn};
 use hallview::hall::Hall;
 use hallview::scene::Scene;
 use hallview::words::counted;
-use hallview::{hall_file, svg, table, terminal};
+use hallview::{gaps, hall_file, svg, table, terminal};
 
 use crate::input;
 use crate::options::Options;
@@ -18,14 +18,15 @@ use crate::output::{FOLDER, Output};
 
 /// A floor with the pairs that are asked for, and the cards of those.
 pub struct Asked {
-    pub drawn: Drawn,
-    pub hall: Hall,
+    drawn: Drawn,
+    hall: Hall,
     cards: Vec<Card>,
     /// How many pairs came with the floor.
     given: usize,
     /// The name of the floor's file, without folders.
     name: Option<String>,
     planned: Option<String>,
+    pub warning: Option<String>,
 }
 
 impl Asked {
@@ -40,6 +41,7 @@ impl Asked {
             cards: cards.collect(),
             name: name.map(|name| shown(&name.to_string_lossy())),
             planned: drawn.planned(),
+            warning: gaps::warning(&hall, &drawn),
             given,
             hall,
             drawn,
@@ -84,6 +86,7 @@ impl Asked {
             card,
             name: self.name.as_deref(),
             planned: self.planned.as_deref(),
+            warning: self.warning.as_deref(),
         }
     }
 

@@ -9,7 +9,6 @@ use std::env;
 use std::process::ExitCode;
 
 use asked::Asked;
-use hallview::gaps;
 use options::{Options, Task};
 
 fn main() -> ExitCode {
@@ -28,7 +27,7 @@ fn main() -> ExitCode {
 
 fn run(options: &Options) -> Result<(), String> {
     let asked = Asked::of(options, input::read(&options.floor)?)?;
-    if let Some(warning) = gaps::warning(&asked.hall, &asked.drawn) {
+    if let Some(warning) = &asked.warning {
         eprintln!("{}: warning: {warning}", input::shown_name(&options.floor));
     }
     output::write(&options.floor, &asked.outputs(options))

@@ -6,7 +6,7 @@ use crate::floor::{BLOCKED, Place, index_of, sector_of};
 use crate::hall::Hall;
 use crate::words::counted;
 
-/// The most closing cells that are told one by one.
+/// The most cells in the way, and sectors, that are told one by one.
 const MOST_TOLD: usize = 8;
 
 /// The way from source to goal with the fewest blocked cells, of those the one with the
@@ -85,15 +85,18 @@ impl NoRoute {
         let rows = || self.reached.iter().map(|place| place.1);
         let sectors: BTreeSet<_> = self.reached.iter().map(|place| sector_of(*place)).collect();
         let listed: Vec<String> = sectors.iter().map(|(c, r)| format!("{c},{r}")).collect();
+        let sectors = match listed.len() {
+            1 => format!("sector {}", listed[0]),
+            ..=MOST_TOLD => format!("sectors {}", listed.join(" ")),
+            count => format!("{count} sectors"),
+        };
         format!(
-            "the source reaches {}: x {} to {}, y {} to {}, in sector{} {}",
+            "the source reaches {}: x {} to {}, y {} to {}, in {sectors}",
             counted(self.reached.len(), "cell"),
             first.0,
             columns.max().unwrap_or(first.0),
             rows().min().unwrap_or(first.1),
-            rows().max().unwrap_or(first.1),
-            if sectors.len() == 1 { "" } else { "s" },
-            listed.join(" ")
+            rows().max().unwrap_or(first.1)
         )
     }
 

@@ -12,6 +12,8 @@ pub struct Scene<'a> {
     pub name: Option<&'a str>,
     /// What was planned in metres.
     pub planned: Option<&'a str>,
+    /// What is to be warned of.
+    pub warning: Option<&'a str>,
 }
 
 impl<'a> Scene<'a> {
@@ -22,6 +24,7 @@ impl<'a> Scene<'a> {
             card,
             name: None,
             planned: None,
+            warning: None,
         }
     }
 }

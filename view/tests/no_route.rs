@@ -113,6 +113,23 @@ fn a_gap_closed_by_scaling_is_told_before_a_wall() {
 }
 
 #[test]
+fn one_wall_is_less_in_the_way_than_a_long_corridor_closed_by_scaling() {
+    let rows = |row: &str, count: usize| format!("{row}\n").repeat(count);
+    let (open, gap, wall) = ("..........", "#....###.#", "########.#");
+    let drawn = [(open, 3), (gap, 2), (wall, 1), (gap, 2), (open, 2)];
+    let text: String = drawn.map(|(row, count)| rows(row, count)).concat();
+    let hall = hall(&format!("scale 2\n{text}"));
+    assert!((3..8).all(|y| hall.is_narrow((8, y))));
+    let card = Card::of(&hall, (15, 95));
+    let details = card.details(&hall);
+    assert_eq!(
+        details[1],
+        "in the way to the goal, where it is least: 1 cell"
+    );
+    assert!(details[2].ends_with(", blocked"), "{}", details[2]);
+}
+
+#[test]
 fn a_blocked_end_is_told() {
     let hall = walled('.', 2);
     let outcome = |pair| Card::of(&hall, pair).outcome(&hall);
@@ -151,7 +168,7 @@ fn both_pictures_show_the_area_and_what_is_in_the_way() {
     // The source has a sign of its own; a cell is two characters wide.
     assert_eq!((count('+'), count('×')), (89, 2));
     assert!(legend.contains("+ the source reaches it") && legend.contains("× in the way"));
-    assert!(picture.contains(">reached from the source</text>"));
+    assert!(picture.contains(">reached from source</text>"));
     assert!(picture.contains(">in the way</text>"));
     let (text, picture) = shown((50, 51));
     assert!(!text.contains(['+', '×']) && !picture.contains(">in the way</text>"));

@@ -18,8 +18,10 @@ fn sample() -> (Hall, Card) {
 #[test]
 fn the_picture_in_docs_is_that_of_the_sample() {
     let (hall, card) = sample();
+    let mut scene = Scene::of(&hall, Some(&card));
+    scene.name = Some("parcels.txt");
     assert!(
-        svg::draw(Scene::of(&hall, Some(&card))) == repository_text("docs/hall.svg"),
+        svg::draw(scene) == repository_text("docs/hall.svg"),
         "run view/pictures.sh"
     );
 }
@@ -33,20 +35,9 @@ fn the_terminal_shows_the_sample() {
     );
 }
 
-/// A hall of 10 by 6 sectors whose rows of sectors are joined at the east and west end by
-/// turns, and the card from its first cell to its last.
+/// A hall of 10 by 6 sectors whose rows of sectors are joined at the east and west end by turns.
 fn winding() -> (Hall, Card) {
-    let open = ".".repeat(100) + "\n";
-    let walls = [
-        "#".repeat(99) + ".\n",
-        ".".to_string() + &"#".repeat(99) + "\n",
-    ];
-    let text: String = (0..6)
-        .map(|row| open.repeat(9) + if row < 5 { &walls[row % 2] } else { &open })
-        .collect();
-    let hall = Hall::build(drawing::read(text.as_bytes()).unwrap().floor);
-    let card = Card::of(&hall, (0, hall.floor.costs.len() - 1));
-    (hall, card)
+    common::winding(6, 9)
 }
 
 #[test]
@@ -119,24 +110,6 @@ fn colours_change_no_character() {
         plain.push_str(text);
     }
     assert_eq!(plain, terminal::draw(Scene::of(&hall, Some(&card)), false));
-}
-
-#[test]
-fn many_costs_are_shown_as_a_range() {
-    let assert_shown = |costs: &str, shown: &[&str], hidden: &str| {
-        let text = format!("x = 10\n{costs}\n") + &"..........\n".repeat(9);
-        let hall = Hall::build(drawing::read(text.as_bytes()).unwrap().floor);
-        let picture = svg::draw(Scene::of(&hall, None));
-        let shows = |text: &str| picture.contains(&format!(">{text}</text>"));
-        assert!(shown.iter().all(|text| shows(text)) && !shows(hidden));
-    };
-    assert_shown(
-        "..23456789",
-        &["cost 2", "cost 6", "cost 9"],
-        "costs from 2",
-    );
-    let range = ["costs from 2", "through 6", "up to 10"];
-    assert_shown(".x23456789", &range, "cost 6");
 }
 
 #[test]

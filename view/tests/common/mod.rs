@@ -3,6 +3,8 @@
 
 use std::fs;
 
+use hallview::card::Card;
+use hallview::drawing;
 use hallview::floor::Floor;
 use hallview::hall::Hall;
 
@@ -37,4 +39,22 @@ pub fn drawn_hall(draw: &mut Draw, most: usize) -> Hall {
         costs: (0..100 * columns * rows).map(&mut cost).collect(),
         legend: vec![],
     })
+}
+
+/// A hall of 10 by some sectors in which a wall follows each so many rows, with a gap at the
+/// east and west end by turns; and the card from its first cell to the last open one.
+pub fn winding(rows: usize, between: usize) -> (Hall, Card) {
+    let open = ".".repeat(100) + "\n";
+    let walls = [
+        "#".repeat(99) + ".\n",
+        ".".to_string() + &"#".repeat(99) + "\n",
+    ];
+    let row = |y: usize| match y % (between + 1) {
+        at if at == between && y + 1 < rows * 10 => &walls[y / (between + 1) % 2],
+        _ => &open,
+    };
+    let text: String = (0..rows * 10).map(|y| row(y).as_str()).collect();
+    let hall = Hall::build(drawing::read(text.as_bytes()).unwrap().floor);
+    let card = Card::of(&hall, (0, hall.floor.costs.len() - 1));
+    (hall, card)
 }
