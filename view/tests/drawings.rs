@@ -112,6 +112,12 @@ fn wrong_settings() {
             " weight 2\n",
             "line 1, column 2: no setting is called `weight`: there are `scale`, `width`, `metres`, `pair` and legends such as `~ = 40`",
         ),
+    ]);
+}
+
+#[test]
+fn wrong_widths() {
+    assert_settings(&[
         (
             "width 0\n",
             "line 1, column 7: width `0` is not a whole number from 1 to 100",

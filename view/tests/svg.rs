@@ -12,7 +12,8 @@ use hallview::svg;
 use picture::{Element, cover, elements, overlap, picture_of, size};
 
 const STEP_WINDOW: &str = "#7c3aed";
-const BADGE: &str = "#c2185b";
+/// Numbers of steps; source and goal.
+const MARKS: [&str; 2] = ["#c2185b", "#1a4fa0"];
 
 /// A drawing of whole sectors from a rule for each cell.
 fn drawing_of(columns: usize, rows: usize, cell: impl Fn(usize, usize) -> char) -> String {
@@ -192,11 +193,13 @@ fn a_large_hall_tells_its_costs_by_shades() {
     }
 }
 
-/// The numbers of steps, and the windows of steps.
+/// The numbers of steps with source and goal, and the windows of steps.
 fn badges_and_windows(picture: &str) -> (Vec<Element>, Vec<Element>) {
     let all = elements(picture);
-    let is_badge =
-        |e: &&Element| e.name == "rect" && e.has("fill", BADGE) && e.value("rx").is_some();
+    let is_badge = |e: &&Element| {
+        let is_mark = e.name == "rect" && e.value("rx").is_some();
+        is_mark && MARKS.iter().any(|fill| e.has("fill", fill))
+    };
     let is_window = |e: &&Element| e.name == "polyline" && e.has("stroke", STEP_WINDOW);
     (
         all.iter().filter(is_badge).cloned().collect(),
@@ -209,9 +212,28 @@ fn a_window_of_one_cell_is_seen_beside_the_number_of_its_step() {
     let [_, three, ten] = three_sizes();
     let (hall, card) = winding(10, 1);
     let snake = svg::draw(Scene::of(&hall, Some(&card)));
-    for (picture, least) in [(three, 3), (ten, 18), (snake, 450)] {
+    let at_window = |cell| {
+        let gap = |x, y| {
+            if y == 4 {
+                cell
+            } else if x == 9 || x == 10 {
+                '#'
+            } else {
+                '.'
+            }
+        };
+        picture_of(&format!("pair 9,4 10,4\n{}", drawing_of(2, 1, gap)))
+    };
+    let pictures = [
+        (three, 3),
+        (ten, 18),
+        (snake, 450),
+        (at_window('.'), 1),
+        (at_window('x'), 1),
+    ];
+    for (picture, least) in pictures {
         let (badges, windows) = badges_and_windows(&picture);
-        assert!(badges.len() >= least && windows.len() >= least);
+        assert!(badges.len() >= least + 2 && windows.len() >= least);
         for window in &windows {
             let seen = !badges
                 .iter()

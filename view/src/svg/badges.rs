@@ -2,9 +2,9 @@
 
 use super::colours::{END, PAPER, ROUTE};
 use super::numbers::{Numbers, towards};
-use super::shapes::{Attributes, Point, SANS_WIDTH, centred, circle, line, rect};
+use super::shapes::{Attributes, Cover, Point, SANS_WIDTH, centred, circle, line, rect};
 use super::sheet::{CELL, Sheet};
-use crate::card::{Card, Step};
+use crate::card::{Card, End, Step};
 use crate::hall::Window;
 
 /// How far a step's number stands off its window, so that both are seen; and how far if a
@@ -12,58 +12,47 @@ use crate::hall::Window;
 const CLEAR: f64 = CELL * 0.2;
 const CLEAR_BY_COST: f64 = CELL * 0.14;
 
-/// A place on the sheet that a mark covers: its middle, and how far it reaches to each side.
-#[derive(Clone, Copy)]
-struct Cover {
-    at: Point,
-    reach: Point,
-}
-
-impl Cover {
-    fn overlaps(self, other: Cover) -> bool {
-        let apart = |a: f64, b: f64, reach: f64| (a - b).abs() >= reach;
-        !apart(self.at.0, other.at.0, self.reach.0 + other.reach.0)
-            && !apart(self.at.1, other.at.1, self.reach.1 + other.reach.1)
-    }
-}
-
-/// Source and goal, then the steps around them. The last step is the goal.
-pub fn draw(sheet: &mut Sheet, card: &Card, numbers: &Numbers) {
-    let mut covered = ends(sheet, card, numbers);
+/// Source and goal, and the steps around them, as elements that lie above all else. Lines to
+/// numbers that had to step aside are drawn. The last step is the goal.
+pub fn marks(sheet: &mut Sheet, card: &Card, numbers: &Numbers) -> Vec<String> {
+    let ends = ends(sheet, card, numbers);
+    let mut covered: Vec<Cover> = ends.iter().map(|(cover, _)| *cover).collect();
+    covered.extend(numbers.covers(sheet));
+    let ends = ends.iter();
+    let mut marks: Vec<String> = ends
+        .map(|(cover, letter)| end(cover.at, cover.reach.0, *letter))
+        .collect();
     for (number, step) in (1..).zip(card.steps()) {
         if let Some(window) = step.window {
-            place_badge(sheet, numbers, &mut covered, (number, step, window));
+            marks.push(place(sheet, numbers, &mut covered, (number, step, window)));
         }
     }
+    marks
 }
 
-fn ends(sheet: &mut Sheet, card: &Card, numbers: &Numbers) -> Vec<Cover> {
-    let mut covered = vec![];
-    for marked in card.ends(sheet.hall) {
+fn ends(sheet: &Sheet, card: &Card, numbers: &Numbers) -> Vec<(Cover, char)> {
+    let cover = |marked: &End| {
         let (x, y) = sheet.centre(marked.place);
         let (half, at) = if numbers.has(marked.place) {
             (CELL * 0.28, (x, y - CELL * 0.18))
         } else {
-            let half = (CELL * 0.42).max(sheet.text * 0.45);
+            let half = (CELL * 0.36).max(sheet.text * 0.42);
             (half, sheet.on_floor((x, y), (half, half)))
         };
-        sheet.add(end(at, half, marked.letter));
-        covered.push(Cover {
-            at,
-            reach: (half, half),
-        });
-    }
-    covered
+        let reach = (half, half);
+        (Cover { at, reach }, marked.letter)
+    };
+    card.ends(sheet.hall).iter().map(cover).collect()
 }
 
 /// The number of a step beside its window, or a little farther off if something is there; a
-/// dot if there is no room. A line leads from a number that is not in its cell.
-fn place_badge(
+/// dot if there is no room. A line leads to a number that is not in its cell.
+fn place(
     sheet: &mut Sheet,
     numbers: &Numbers,
     covered: &mut Vec<Cover>,
     (number, step, window): (usize, &Step, Window),
-) {
+) -> String {
     let place = sheet.hall.place(step.sector, step.goal);
     let centre = sheet.centre(place);
     let radius = match numbers.has(place) {
@@ -71,24 +60,22 @@ fn place_badge(
         false => (CELL * 0.36).max(sheet.text * 0.5),
     };
     let reach = (half_width(number, radius), radius);
-    let spots = spots(centre, window, reach, numbers.has(place));
-    let free = spots
-        .into_iter()
-        .map(|at| sheet.on_floor(at, reach))
-        .find(|at| !covered.iter().any(|c| c.overlaps(Cover { at: *at, reach })));
-    let Some(at) = free else {
-        sheet.add(circle(centre, CELL * 0.28, &[("fill", &ROUTE)]));
-        return;
+    let spots = spots(centre, window, reach, numbers.has(place)).into_iter();
+    let covers = spots.map(|at| Cover {
+        at: sheet.on_floor(at, reach),
+        reach,
+    });
+    let mut free = covers.filter(|cover| !covered.iter().any(|other| cover.overlaps(*other)));
+    let Some(cover) = free.next() else {
+        return circle(centre, CELL * 0.28, &[("fill", &ROUTE)]);
     };
-    let (off_x, off_y) = ((at.0 - centre.0).abs(), (at.1 - centre.1).abs());
-    if off_x > reach.0 || off_y > reach.1 {
-        sheet.add(line(
-            &[centre, at],
-            &[("stroke", &ROUTE), ("stroke-width", &1.2)],
-        ));
+    let (x, y) = cover.at;
+    if (x - centre.0).abs() > reach.0 || (y - centre.1).abs() > reach.1 {
+        let list: &Attributes = &[("stroke", &ROUTE), ("stroke-width", &1.2)];
+        sheet.add(line(&[centre, cover.at], list));
     }
-    sheet.add(badge(at, number, radius));
-    covered.push(Cover { at, reach });
+    covered.push(cover);
+    badge(cover.at, number, radius)
 }
 
 /// Where a number may stand: off its window by its own size, then farther off and to the sides.

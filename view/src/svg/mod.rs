@@ -34,13 +34,13 @@ pub fn draw(scene: Scene) -> String {
     }
     let numbers = Numbers::of(sheet);
     numbers::midpoints(sheet, &numbers);
+    let marks = scene.card.map(|card| badges::marks(sheet, card, &numbers));
     numbers.draw(sheet);
     if let Some(no_route) = no_route {
         apart::draw_closing(sheet, no_route);
     }
-    if let Some(card) = scene.card {
-        badges::draw(sheet, card, &numbers);
-    }
+    let marks = marks.into_iter().flatten();
+    marks.for_each(|mark| sheet.add(mark));
     legend::draw(sheet);
     caption::draw(sheet);
     sheet.picture()

@@ -4,7 +4,7 @@ use std::collections::BTreeMap;
 
 use super::colours::WINDOW;
 use super::shades::{Class, class_of, classes};
-use super::shapes::{Attributes, Point, SANS_WIDTH, circle, label, rect};
+use super::shapes::{Attributes, Cover, Point, SANS_WIDTH, circle, label, rect};
 use super::sheet::{CELL, Sheet};
 use crate::floor::Place;
 
@@ -71,21 +71,40 @@ impl Numbers {
         self.parts.contains_key(&place)
     }
 
-    /// Each number on a plate of its cell's colour, which keeps a way off it.
-    pub fn draw(&self, sheet: &mut Sheet) {
-        for (place, part) in &self.parts {
-            let cost = sheet.hall.base(*place);
-            let Some(class) = class_of(&self.classes, cost) else {
-                continue;
-            };
+    /// Each number's cell, middle and size.
+    fn each(&self, sheet: &Sheet) -> impl Iterator<Item = (Place, Point, f64)> {
+        let spot = |(place, part): (&Place, &Part)| {
             let (x, y) = sheet.centre(*place);
             let (size, aside) = match part {
                 Part::Middle => (ALONE, 0.0),
                 Part::North => (BESIDE, -CELL * 0.3),
                 Part::South => (BESIDE, CELL * 0.3),
             };
-            sheet.add(number((x, y + aside), cost, size, class));
-        }
+            (*place, (x, y + aside), size)
+        };
+        self.parts.iter().map(spot)
+    }
+
+    /// What the numbers cover.
+    pub fn covers(&self, sheet: &Sheet) -> Vec<Cover> {
+        let cover = |(place, at, size): (Place, Point, f64)| {
+            let digits = sheet.hall.base(place).to_string().len() as f64;
+            let reach = (digits * size * SANS_WIDTH / 2.0, size * 0.37);
+            Cover { at, reach }
+        };
+        self.each(sheet).map(cover).collect()
+    }
+
+    /// Each number on a plate of its cell's colour, which keeps a way off it.
+    pub fn draw(&self, sheet: &mut Sheet) {
+        let drawn: Vec<String> = self
+            .each(sheet)
+            .filter_map(|(place, at, size)| {
+                let cost = sheet.hall.base(place);
+                Some(number(at, cost, size, class_of(&self.classes, cost)?))
+            })
+            .collect();
+        drawn.into_iter().for_each(|number| sheet.add(number));
     }
 }
 

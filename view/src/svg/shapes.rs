@@ -8,6 +8,22 @@ pub type Point = (f64, f64);
 /// Attributes and their values.
 pub type Attributes<'a> = [(&'a str, &'a dyn Display)];
 
+/// A part of the sheet that something covers: its middle, and how far it reaches to its sides,
+/// and up and down.
+#[derive(Clone, Copy)]
+pub struct Cover {
+    pub at: Point,
+    pub reach: Point,
+}
+
+impl Cover {
+    pub fn overlaps(self, other: Cover) -> bool {
+        let meet = |a: f64, b: f64, reach: f64| (a - b).abs() < reach;
+        meet(self.at.0, other.at.0, self.reach.0 + other.reach.0)
+            && meet(self.at.1, other.at.1, self.reach.1 + other.reach.1)
+    }
+}
+
 pub const MONO: &str = "'DejaVu Sans Mono', Menlo, Consolas, 'Liberation Mono', monospace";
 /// A character's width for its size. Where the first fonts of a list are missing, another may
 /// be wider than they are: there is room for it.

@@ -1,17 +1,16 @@
-//! A floor as text: cells, sector borders, windows, midpoints, and the way of a card.
+//! The characters of a floor, drawn one over the other.
 
+use std::collections::BTreeMap;
 use std::iter::repeat;
 
 use crate::card::Card;
 use crate::floor::{BLOCKED, LENGTH, Place, UNNAMED};
 use crate::hall::{Hall, over};
 use crate::no_route::NoRoute;
-use crate::scene::Scene;
 use crate::symbols::{
     self, BLOCKED_SIGN, CLOSED_SIGN, CLOSING_SIGN, FIRST_STEPS, LATER_STEP, LEVEL_WINDOW, MIDPOINT,
     OPEN_SIGN, REACHED_SIGN, UPRIGHT_WINDOW,
 };
-use crate::walk::walk;
 
 /// Characters left of the floor, and lines above it.
 const LEFT: usize = 4;
@@ -43,42 +42,15 @@ impl Ink {
 }
 
 /// Characters by line and column.
-struct Canvas<'a> {
+pub struct Canvas<'a> {
     hall: &'a Hall,
     /// Characters of a cell.
     wide: usize,
     lines: Vec<Vec<(char, Ink)>>,
 }
 
-/// The floor, its legend and the card as lines; with colours if the terminal shows them.
-pub fn draw(scene: Scene, colours: bool) -> String {
-    let (hall, card) = (scene.hall, scene.card);
-    let mut canvas = Canvas::empty(hall);
-    canvas.scales();
-    canvas.cells();
-    canvas.borders();
-    if let Some(no_route) = card.and_then(Card::no_route) {
-        canvas.area(no_route);
-    }
-    let way = card.map(|card| walk(hall, card)).unwrap_or_default();
-    canvas.way(&way);
-    canvas.midpoints();
-    if let Some(no_route) = card.and_then(Card::no_route) {
-        canvas.closing(no_route);
-    }
-    if let Some(card) = card {
-        canvas.steps(card);
-    }
-    let planned = scene.planned.map(|text| format!("\n{text}\n"));
-    canvas.text(colours)
-        + "\n"
-        + &legend(hall, card)
-        + &planned.unwrap_or_default()
-        + &card.map(|card| words(hall, card)).unwrap_or_default()
-}
-
 impl Canvas<'_> {
-    fn empty(hall: &Hall) -> Canvas<'_> {
+    pub fn empty(hall: &Hall) -> Canvas<'_> {
         let wide = if hall.floor.columns <= WIDE_COLUMNS {
             2
         } else {
@@ -117,7 +89,7 @@ impl Canvas<'_> {
     }
 
     /// Columns and rows of sectors, and of the cells in each.
-    fn scales(&mut self) {
+    pub fn scales(&mut self) {
         for x in 0..self.hall.floor.width() {
             let (_, column) = self.spot((x, 0));
             self.put_text(1, column, &(x % LENGTH).to_string());
@@ -134,7 +106,7 @@ impl Canvas<'_> {
         }
     }
 
-    fn cells(&mut self) {
+    pub fn cells(&mut self) {
         let table = symbols::table(&self.hall.floor);
         for place in self.hall.floor.places() {
             let cost = self.hall.base(place);
@@ -153,14 +125,14 @@ impl Canvas<'_> {
     }
 
     /// The area that the source reaches.
-    fn area(&mut self, no_route: &NoRoute) {
+    pub fn area(&mut self, no_route: &NoRoute) {
         for place in &no_route.reached {
             self.put_cell(*place, REACHED_SIGN, Ink::End);
         }
     }
 
     /// The cells that keep source and goal apart.
-    fn closing(&mut self, no_route: &NoRoute) {
+    pub fn closing(&mut self, no_route: &NoRoute) {
         for place in &no_route.closing {
             let (line, column) = self.spot(*place);
             for column in column..column + self.wide {
@@ -169,7 +141,7 @@ impl Canvas<'_> {
         }
     }
 
-    fn borders(&mut self) {
+    pub fn borders(&mut self) {
         let (columns, rows) = (self.hall.floor.columns, self.hall.floor.rows);
         let upright = |column| LEFT + column * (LENGTH * self.wide + 1);
         let level = |row| TOP + row * (LENGTH + 1);
@@ -218,7 +190,7 @@ impl Canvas<'_> {
         }
     }
 
-    fn midpoints(&mut self) {
+    pub fn midpoints(&mut self) {
         for (sector, window) in self.hall.all_windows() {
             let place = self.hall.place(sector, window.midpoint());
             self.put_cell(place, MIDPOINT, Ink::Window);
@@ -226,8 +198,8 @@ impl Canvas<'_> {
     }
 
     /// Lines from cell to cell.
-    fn way(&mut self, way: &[Place]) {
-        let mut links = std::collections::BTreeMap::new();
+    pub fn way(&mut self, way: &[Place]) {
+        let mut links = BTreeMap::new();
         for pair in way.windows(2) {
             for side in (0..4).filter(|side| over(pair[0], *side) == pair[1]) {
                 *links.entry(pair[0]).or_insert(0) |= 1 << side;
@@ -248,7 +220,7 @@ impl Canvas<'_> {
     }
 
     /// The signs of the steps at their cells, and source and goal.
-    fn steps(&mut self, card: &Card) {
+    pub fn steps(&mut self, card: &Card) {
         let signs = FIRST_STEPS.chars().chain(repeat(LATER_STEP));
         for (sign, step) in signs.zip(card.steps()) {
             let place = self.hall.place(step.sector, step.goal);
@@ -259,7 +231,7 @@ impl Canvas<'_> {
         }
     }
 
-    fn text(&self, colours: bool) -> String {
+    pub fn text(&self, colours: bool) -> String {
         let mut text = String::new();
         for line in &self.lines {
             let end = line
@@ -303,68 +275,4 @@ fn line_through(sides: u8) -> char {
     [
         '·', '│', '─', '╰', '│', '│', '╭', '├', '─', '╯', '─', '┴', '╮', '┤', '┬', '┼',
     ][usize::from(sides)]
-}
-
-fn legend(hall: &Hall, card: Option<&Card>) -> String {
-    let mut entries = vec![format!("{BLOCKED_SIGN} blocked")];
-    if hall.floor.places().any(|place| hall.is_narrow(place)) {
-        entries.push(format!("{CLOSED_SIGN} closed by scaling"));
-    }
-    entries.push(format!("{OPEN_SIGN} open at cost 1"));
-    let others = symbols::table(&hall.floor).into_iter();
-    for (symbol, cost) in others.filter(|(_, cost)| ![UNNAMED, BLOCKED].contains(cost)) {
-        entries.push(format!("{symbol} open at cost {cost}"));
-    }
-    entries.push(format!("{UPRIGHT_WINDOW}{LEVEL_WINDOW} window"));
-    entries.push(format!("{MIDPOINT} its midpoint"));
-    entries.extend(card.into_iter().flat_map(|card| card_legend(hall, card)));
-    wrapped(&entries)
-}
-
-/// What a card adds to the legend. Its last step is the goal, and has no other sign.
-fn card_legend(hall: &Hall, card: &Card) -> Vec<String> {
-    let ends = card.ends(hall).into_iter();
-    let mut entries: Vec<String> = ends
-        .map(|end| format!("{} {}", end.letter, end.name))
-        .collect();
-    let (first, steps) = (FIRST_STEPS.chars().count(), card.steps().len());
-    if steps > 1 {
-        entries.push("① step of the card".to_string());
-    }
-    if steps > first + 1 {
-        entries.push(format!("{LATER_STEP} step after the {first}th"));
-    }
-    if card.has_way() {
-        entries.push("─ a way to drive it".to_string());
-    }
-    if let Some(no_route) = card.no_route() {
-        if !no_route.reached.is_empty() {
-            entries.push(format!("{REACHED_SIGN} the source reaches it"));
-        }
-        entries.push(format!("{CLOSING_SIGN} in the way"));
-    }
-    entries
-}
-
-/// Entries in lines of at most 78 characters.
-fn wrapped(entries: &[String]) -> String {
-    let mut lines = vec![String::new()];
-    for entry in entries {
-        let last = lines.len() - 1;
-        if lines[last].chars().count() + entry.chars().count() > 76 {
-            lines.push(String::new());
-        }
-        let last = lines.len() - 1;
-        lines[last].push_str(&format!("  {entry}"));
-    }
-    lines.join("\n") + "\n"
-}
-
-/// The card as a line, and in words.
-fn words(hall: &Hall, card: &Card) -> String {
-    let mut text = format!("\n{}\n  {}\n", card.line(), card.outcome(hall));
-    for detail in card.details(hall) {
-        text.push_str(&format!("  {detail}\n"));
-    }
-    text
 }
