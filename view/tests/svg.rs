@@ -342,5 +342,5 @@ fn a_plan_and_a_warning_stand_in_the_picture() {
     (scene.planned, scene.warning) = (Some("20 by 10 m"), Some("the trolley is wide"));
     let picture = svg::draw(scene);
     text_of(&picture, "20 by 10 m");
-    assert!(text_of(&picture, "the trolley is wide").has("fill", "#d1242f"));
+    assert!(text_of(&picture, "warning: the trolley is wide").has("fill", "#d1242f"));
 }

@@ -30,12 +30,9 @@ pub fn draw_title(sheet: &mut Sheet) {
 /// What is warned of, the card, and its steps or why it has none.
 pub fn draw(sheet: &mut Sheet) {
     sheet.bottom += sheet.text * 0.6;
-    for text in sheet
-        .scene
-        .warning
-        .map(|text| wrapped(text, room(sheet)))
-        .unwrap_or_default()
-    {
+    let warning = sheet.scene.warning.map(|text| format!("warning: {text}"));
+    let warning = warning.map(|text| wrapped(&text, room(sheet)));
+    for text in warning.unwrap_or_default() {
         below(sheet, &text, CLOSING);
     }
     let Some(card) = sheet.scene.card else {

@@ -113,6 +113,6 @@ fn draw_sample(sample: &Sample) -> String {
         }
         Sample::Step => badge((0.0, 0.0), 1, CELL * 0.44),
         Sample::End(letter) => end((0.0, 0.0), CELL * 0.44, *letter),
-        Sample::Closing => closing((0.0, 0.0)),
+        Sample::Closing => closing((0.0, 0.0), CELL * 0.44),
     }
 }
