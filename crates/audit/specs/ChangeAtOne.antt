@@ -79,11 +79,11 @@ module _ (m : Measures) (t : ℕ) (on : t < sectors m) where
       let here : columnOf m t + 1 - 1 ≡ columnOf m t = omega arith in
       let down : columnOf m t * m .rows + (rowOf m t + 2 - 1) ≡ t + 1 = omega (arith, parts) in
       near-at m t 3 (t + 1) (omega arith) (rw (on-axis (columnOf m t + 1) (m .columns) (omega arith) (omega (arith, column)), on-axis (rowOf m t + 2) (m .rows) (omega arith) (omega arith))) (rw here down)
-  near-side West h = west (columnOf m t) refl
+  near-side West h = go (columnOf m t) refl
     where
-      west : (c : ℕ) → columnOf m t ≡ c → isNearby m t (t - m .rows) ≡ true
-      west zero e = absurd (omega (arith, row, leb-true (m .rows) t h, parts, ap (λ (n : ℕ). n * m .rows) e))
-      west (suc c) e =
+      go : (c : ℕ) → columnOf m t ≡ c → isNearby m t (t - m .rows) ≡ true
+      go zero e = absurd (omega (arith, row, leb-true (m .rows) t h, parts, ap (λ (n : ℕ). n * m .rows) e))
+      go (suc c) e =
           let back : c * m .rows + (rowOf m t + 1 - 1) ≡ t - m .rows = omega (arith, parts, ap (λ (n : ℕ). n * m .rows) e) in
           let less : columnOf m t + 0 - 1 ≡ c = omega arith in
           near-at m t 4 (t - m .rows) (omega arith) (rw (on-axis (columnOf m t + 0) (m .columns) (omega arith) (omega (arith, column)), on-axis (rowOf m t + 1) (m .rows) (omega arith) (omega (arith, row)))) (rw less back)

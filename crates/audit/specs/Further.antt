@@ -10,9 +10,9 @@ use Rattle.audit.specs.Starred.{hall, floor, scaled, store, file, pair}
 
 -- ---- scaling and changes
 pub record ScalingFloors : Type 0 where
-  -- the order of directions: N before S, and E before W
-  pub north-before-south : scaled (hall 1 2 6) (60 ∷ 110 ∷ []) ≡ floor (hall 1 2 6) (0 ∷ 60 ∷ 70 ∷ 80 ∷ 90 ∷ 100 ∷ 110 ∷ [])
-  pub east-before-west : scaled (hall 2 1 6) (16 ∷ 102 ∷ []) ≡ floor (hall 2 1 6) (5 ∷ 6 ∷ 7 ∷ 16 ∷ 100 ∷ 101 ∷ 102 ∷ 108 ∷ 109 ∷ [])
+  -- the order of directions, on the rows and on the columns: N before S, and E before W
+  pub directions-on-rows : scaled (hall 1 2 6) (60 ∷ 110 ∷ []) ≡ floor (hall 1 2 6) (0 ∷ 60 ∷ 70 ∷ 80 ∷ 90 ∷ 100 ∷ 110 ∷ [])
+  pub directions-on-columns : scaled (hall 2 1 6) (16 ∷ 102 ∷ []) ≡ floor (hall 2 1 6) (5 ∷ 6 ∷ 7 ∷ 16 ∷ 100 ∷ 101 ∷ 102 ∷ 108 ∷ 109 ∷ [])
   -- the order of cells, and walks that read current scaled costs from base-blocked cells
   pub cells-by-index : scaled (hall 1 1 2) (8 ∷ 37 ∷ []) ≡ floor (hall 1 1 2) (8 ∷ 9 ∷ 19 ∷ 28 ∷ 37 ∷ [])
   -- the order of sectors
@@ -26,8 +26,8 @@ pub record ScalingFloors : Type 0 where
 pub scaling : ScalingFloors
 unfolding computing
 scaling = record {
-  north-before-south = refl;
-  east-before-west = refl;
+  directions-on-rows = refl;
+  directions-on-columns = refl;
   cells-by-index = refl;
   sectors-by-number = refl;
   same-cost = refl;

@@ -9,14 +9,16 @@ ghost use Rattle.model.specs.Sectors.{sectors, cells};
 ghost use Rattle.model.specs.Store.{sizeOf, marksIn};
 ghost use Rattle.model.specs.Accepted.{outside, badSectors, badScale, Accepted};
 ghost use Rattle.model.specs.Calls.{badMark, checkNumber};
-ghost use Rattle.store.specs.Ends.{isAbove, columnEnds, rowEnds};
+ghost use Rattle.store.specs.Ends.{isAbove, endLine, lineMark, Within, sideEnds};
 use crate::bytes::measures_at;
 use crate::bytes::size_of;
 use crate::bytes::u16_at;
+use fields::cells::side_at;
 use fields::numbers::wide;
 use fields::sectors::cells;
 use fields::sectors::sectors;
 use model::Measures;
+use model::Side;
 
 fn is_outside(low: u8, high: u8, n: u8) -> bool
     ensures { λ r. ⌜ r ≡ outside low high n ⌝ }
@@ -82,70 +84,74 @@ fn any_large(st: &[u8], m: Measures) -> bool
     false
 }
 
-// The first sector of column x.
-fn first_in(m: Measures, x: usize) -> usize
-    requires { ⌜ x < m .columns ⌝ }
-    ensures { λ r. ⌜ (r ≡ x * m .rows) × (r + m .rows ≤ sectors m) ⌝ }
-{
-    x * wide(m.rows)
+// The sectors at a side's end of the floor: the first, what leads from each to the next, and how many there are.
+struct EndLine {
+    from: usize,
+    step: usize,
+    count: usize,
 }
 
-// Whether column x has a mark at an end: on the north side of its first sector, or on the south side of its last.
-fn column_ends(st: &[u8], m: Measures, x: usize) -> bool
-    requires { ⌜ Accepted m × (sizeOf m ≤ length (now st)) × (x < m .columns) ⌝ }
-    ensures { λ r. ⌜ r ≡ columnEnds m (marksIn m (now (st .entry))) x ⌝ }
+fn end_line(m: Measures, side: Side) -> EndLine
+    requires { ⌜ Accepted m ⌝ }
+    ensures { λ r. ⌜ r ≡ endLine m side ⌝ }
 {
-    let first = first_in(m, x);
-    if is_above(st, m, 0, first * 4) {
-        return true;
+    let columns = wide(m.columns);
+    let rows = wide(m.rows);
+    match side {
+        Side::North => EndLine {
+            from: 0,
+            step: rows,
+            count: columns,
+        },
+        Side::East => EndLine {
+            from: (columns - 1) * rows,
+            step: 1,
+            count: rows,
+        },
+        Side::South => EndLine {
+            from: rows - 1,
+            step: rows,
+            count: columns,
+        },
+        Side::West => EndLine {
+            from: 0,
+            step: 1,
+            count: rows,
+        },
     }
-    is_above(st, m, 0, (first + wide(m.rows) - 1) * 4 + 2)
 }
 
-// Whether any column has.
-fn any_column_ends(st: &[u8], m: Measures) -> bool
-    requires { ⌜ Accepted m × (sizeOf m ≤ length (now st)) ⌝ }
-    ensures { λ r. ⌜ r ≡ any (columnEnds m (marksIn m (now (st .entry)))) (m .columns) ⌝ }
+// Whether a mark on side n is not 0 in a line of sectors.
+fn any_in(st: &[u8], m: Measures, line: EndLine, n: usize) -> bool
+    requires { ⌜ Accepted m × (sizeOf m ≤ length (now st)) × Within m line × (n < 4) ⌝ }
+    ensures { λ r. ⌜ r ≡ any (lineMark (marksIn m (now (st .entry))) line n) (line .count) ⌝ }
 {
-    let n = wide(m.columns);
-    let mut x = 0;
-    while x < n {
-        if column_ends(st, m, x) {
+    let mut i = 0;
+    while i < line.count {
+        if is_above(st, m, 0, (line.from + i * line.step) * 4 + n) {
             return true;
         }
-        x += 1;
+        i += 1;
     }
     false
 }
 
-// Whether row y has a mark at an end: on the west side of its first sector, or on the east side of its last.
-fn row_ends(st: &[u8], m: Measures, y: usize) -> bool
-    requires { ⌜ Accepted m × (sizeOf m ≤ length (now st)) × (y < m .rows) ⌝ }
-    ensures { λ r. ⌜ r ≡ rowEnds m (marksIn m (now (st .entry))) y ⌝ }
-{
-    if is_above(st, m, 0, y * 4 + 3) {
-        return true;
-    }
-    is_above(st, m, 0, (sectors(m) - wide(m.rows) + y) * 4 + 1)
-}
-
-// Whether any row has.
-fn any_row_ends(st: &[u8], m: Measures) -> bool
+// Whether one is on any side at the side's end of the floor.
+fn any_end(st: &[u8], m: Measures) -> bool
     requires { ⌜ Accepted m × (sizeOf m ≤ length (now st)) ⌝ }
-    ensures { λ r. ⌜ r ≡ any (rowEnds m (marksIn m (now (st .entry)))) (m .rows) ⌝ }
+    ensures { λ r. ⌜ r ≡ any (sideEnds m (marksIn m (now (st .entry)))) 4 ⌝ }
 {
-    let n = wide(m.rows);
-    let mut y = 0;
-    while y < n {
-        if row_ends(st, m, y) {
+    let mut n = 0;
+    while n < 4 {
+        if any_in(st, m, end_line(m, side_at(n)), n) {
             return true;
         }
-        y += 1;
+        n += 1;
     }
     false
 }
 
-// Whether any mark of a store is above 1,023, or not 0 on a side without neighbour, which is at an end of a column or row.
+// Whether any mark of a store is above 1,023, or not 0 on a side without neighbour, which is at the side's end of the floor.
 fn any_bad_mark(st: &[u8], m: Measures) -> bool
     requires { ⌜ Accepted m × (sizeOf m ≤ length (now st)) ⌝ }
     ensures { λ r. ⌜ r ≡ any (badMark m (marksIn m (now (st .entry)))) (sectors m * 4) ⌝ }
@@ -153,10 +159,7 @@ fn any_bad_mark(st: &[u8], m: Measures) -> bool
     if any_large(st, m) {
         return true;
     }
-    if any_column_ends(st, m) {
-        return true;
-    }
-    any_row_ends(st, m)
+    any_end(st, m)
 }
 
 // The number of the first refusal that applies to a store, or 0.
