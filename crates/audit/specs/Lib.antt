@@ -9,6 +9,7 @@ pub mod FreshMarks
 pub mod Gates
 pub mod RoutePromise
 pub mod ChangeAtOne
+pub mod BuiltStore
 pub mod StoreAfter
 pub mod Reached
 pub mod Walks

@@ -17,7 +17,8 @@ use Rattle.model.specs.Account.{Call, change, route, Account, opening, fed, acc
 use Rattle.model.specs.Store.{decode, written}
 use Rattle.model.specs.Calls.{ifAccepted, buildNumber, built, buildInto, checkNumber, changeNumber, changeInto, storeAfterCall, storeAfter}
 use Rattle.audit.specs.FreshMarks.{Fresh}
-use Rattle.audit.specs.StoreAfter.{accepts, fresh, decoded, checks, changed-one, refused-off, refused-leaves}
+use Rattle.audit.specs.BuiltStore.{Accepts, accepts, fresh, decoded, checks}
+use Rattle.audit.specs.StoreAfter.{changed-one, refused-off, refused-leaves}
 
 -- ---- the definition
 -- Build of the account is accepted in the store `lent`, and the store `st` is what it leaves there, byte for byte: the hall of the account, and past its size what was lent.
@@ -36,16 +37,19 @@ module _ {a : Account} {lent st : List ℕ} (r : Reached a lent st) where
   unfolding buildInto ifAccepted
   stored = r .is-built ∙ rw (r .accepted)
 
+  ok : Accepts (a .measures) (a .base) lent
+  ok = accepts (a .measures) (a .base) lent (r .accepted)
+
   -- the hall in the store is the one that build makes
   pub reached-hall : decode st ≡ built (a .measures) (a .base)
-  reached-hall = rw stored (decoded (a .measures) (a .base) lent (accepts (a .measures) (a .base) lent (r .accepted)))
+  reached-hall = rw stored (decoded (a .measures) (a .base) lent ok)
 
   -- the store passes the check
   pub reached-passes : checkNumber st ≡ 0
-  reached-passes = rw stored (checks (a .measures) (a .base) lent (accepts (a .measures) (a .base) lent (r .accepted)))
+  reached-passes = rw stored (checks (a .measures) (a .base) lent ok)
 
   pub reached-fresh : Fresh (built (a .measures) (a .base))
-  reached-fresh = fresh (a .measures) (a .base) lent (accepts (a .measures) (a .base) lent (r .accepted))
+  reached-fresh = fresh (a .measures) (a .base) lent ok
 
 -- ---- one call
 fed-puts : (a : Account) (n v : ℕ) → a .measures .scale ≡ 1 → n < cells (a .measures) → fed a (change n v) ≡ record { measures = a .measures; base = set (a .base) n v }
@@ -88,12 +92,10 @@ module _ (a : Account) (lent st : List ℕ) (r : Reached a lent st) where
 
       go : Dec (a .measures .scale ≡ 1) → (n < cells (a .measures)) ⊎ (cells (a .measures) ≤ n) → Reached (fed a (change n v)) lent (changeInto st n v)
       go (yes one) (inl on) =
-          let ok = accepts (a .measures) (a .base) lent (r .accepted) in
-          rw (fed-puts a n v one on, stored r, changed-one (a .measures) (a .base) lent ok n v one on)
+          rw (fed-puts a n v one on, stored r, changed-one (a .measures) (a .base) lent (ok r) n v one on)
           (written-reached (a .measures) (set (a .base) n v) lent (put-accepted (a .measures) (a .base) lent n v (r .accepted)) refl)
       go (yes one) (inr off) =
-          let ok = accepts (a .measures) (a .base) lent (r .accepted) in
-          let number : changeNumber st n v ≡ 21 = rw (stored r) (refused-off (a .measures) (a .base) lent ok n v off) in
+          let number : changeNumber st n v ≡ 21 = rw (stored r) (refused-off (a .measures) (a .base) lent (ok r) n v off) in
           left (λ e. omega arith) (fed-off a n v one off)
       go (no more) other = left (λ e. more (only e)) (fed-scaled a n v more)
 

@@ -100,7 +100,13 @@ fn fill_number(
         clear_places(p, table);
         return;
     }
-    let n = moves_from(st, m, p / SECTOR_PORTALS * SECTOR_CELLS + wide(mid), words, levels);
+    let n = moves_from(
+        st,
+        m,
+        p / SECTOR_PORTALS * SECTOR_CELLS + wide(mid),
+        words,
+        levels,
+    );
     let outer = outer_edge(st, m, p);
     fill_places(p, levels, n, mids, outer, table);
 }
@@ -117,7 +123,15 @@ fn fill_sector(st: &[u8], m: Measures, s: usize, table: &mut [u32])
     sector_words(st, m, s, &mut words);
     let mut c = 0;
     while c < SECTOR_PORTALS {
-        fill_number(st, m, s * SECTOR_PORTALS + c, &mids, &words, &mut levels, table);
+        fill_number(
+            st,
+            m,
+            s * SECTOR_PORTALS + c,
+            &mids,
+            &words,
+            &mut levels,
+            table,
+        );
         c += 1;
     }
 }

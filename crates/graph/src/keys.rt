@@ -19,6 +19,7 @@ use model::Measures;
 
 // An edge of weight w has the key KEY_STEP * w + 1: the least key is the least cost, then the fewest edges. UNLINKED is more than any key, and says that there is no path.
 pub const KEY_STEP: u32 = 4096;
+
 pub const UNLINKED: u32 = 4294967295;
 
 // Number v comes to the end of the queue, if there is room. Says where the queue then ends.
@@ -140,7 +141,16 @@ fn take_turn(
     if offers_inside(table, u, keys) {
         return take_arcs(m, table, u, keys, wait, queue, end);
     }
-    offer(m, table, u, u * SECTOR_PORTALS + u % SECTOR_PORTALS, keys, wait, queue, end)
+    offer(
+        m,
+        table,
+        u,
+        u * SECTOR_PORTALS + u % SECTOR_PORTALS,
+        keys,
+        wait,
+        queue,
+        end,
+    )
 }
 
 // The turn of number u, if it waits. Says where the queue then ends.

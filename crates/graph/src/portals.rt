@@ -19,14 +19,16 @@ use model::PortalWindow;
 use model::Side;
 use portal::border::border_index;
 use portal::listing::window_of;
+use portal::runs::OpenRun;
 use portal::runs::window_at;
 use portal::runs::window_count;
-use portal::runs::OpenRun;
 use store::bytes::u16_at;
 
 // How many numbers for portals a side and a sector have, and how many arcs a sector: as many for each of its numbers.
 pub const SIDE_PORTALS: usize = 5;
+
 pub const SECTOR_PORTALS: usize = 20;
+
 pub const SECTOR_ARCS: usize = SECTOR_PORTALS * SECTOR_PORTALS;
 
 // The side that a portal stands on, and the mark of that side.
@@ -84,7 +86,9 @@ pub fn facing(m: Measures, p: usize) -> usize
     ensures { λ r. ⌜ r ≡ facing (bare m) p ⌝ }
 {
     let side = portal_side(p);
-    beyond(m, p / SECTOR_PORTALS, side) * SECTOR_PORTALS + side_number(opposite(side)) * SIDE_PORTALS + p % SIDE_PORTALS
+    beyond(m, p / SECTOR_PORTALS, side) * SECTOR_PORTALS
+        + side_number(opposite(side)) * SIDE_PORTALS
+        + p % SIDE_PORTALS
 }
 
 // The portal to which place c of portal p leads.

@@ -101,5 +101,10 @@ pub fn write_steps(st: &[u8], m: Measures, nodes: &[u16], n: usize, goal: usize,
         i += 1;
     }
     let at = 6 * count;
-    write_last(m, nodes[n - 1] as usize / SECTOR_PORTALS, goal, &mut list[at..]);
+    write_last(
+        m,
+        nodes[n - 1] as usize / SECTOR_PORTALS,
+        goal,
+        &mut list[at..],
+    );
 }
