@@ -1,16 +1,14 @@
 -- A REACHED HALL: after build and any list of calls the store is what build of the account leaves.
-use Prim.Native.Nat.{ℕ, _≤_, _<_}
-use native.Mathlib.Decide.{ℕ-discrete}
+use Prim.Native.Nat.{ℕ, _<_}
 use native.Mathlib.Omega.{arith}
 use mathlib.Core.Path.{_≡_, refl, sym, ap, _∙_}
-use mathlib.Core.Logic.{_≢_, _⊎_, inl, inr}
-use mathlib.Core.Bool.{Bool, true, false, _&&_}
+use mathlib.Core.Logic.{_≢_}
+use mathlib.Core.Bool.{Bool, true, false, _&&_, true≢false}
 use mathlib.Core.List.{List, [], _∷_, _++_}
 use lib.Dec.{ltb, eqb}
 use lib.ListN.{set, length-set}
-use borrow.Author.Tests.{lt-ltb, le-ltb, eq-eqb, ne-eqb}
-use Rattle.laws.specs.Fold.{pick}
-use Rattle.laws.specs.Graph.{below-or}
+use borrow.Author.Tests.{ltb-true, ltb-false, eqb-true, eq-eqb}
+use Rattle.laws.specs.Fold.{pick, pick-keeps}
 use Rattle.model.specs.declared.Measures.{Measures}
 use Rattle.model.specs.Sectors.{cells}
 use Rattle.model.specs.Account.{Call, change, route, Account, opening, fed, accountAfter}
@@ -52,25 +50,10 @@ module _ {a : Account} {lent st : List ℕ} (r : Reached a lent st) where
   reached-fresh = fresh (a .measures) (a .base) lent ok
 
 -- ---- one call
-fed-puts : (a : Account) (n v : ℕ) → a .measures .scale ≡ 1 → n < cells (a .measures) → fed a (change n v) ≡ record { measures = a .measures; base = set (a .base) n v }
-unfolding fed
-fed-puts a n v one on = rw (eq-eqb (a .measures .scale) 1 one, lt-ltb n (cells (a .measures)) on)
-
-fed-off : (a : Account) (n v : ℕ) → a .measures .scale ≡ 1 → cells (a .measures) ≤ n → fed a (change n v) ≡ a
-unfolding fed
-fed-off a n v one off = rw (eq-eqb (a .measures .scale) 1 one, le-ltb n (cells (a .measures)) off)
-
-fed-scaled : (a : Account) (n v : ℕ) → a .measures .scale ≢ 1 → fed a (change n v) ≡ a
-unfolding fed
-fed-scaled a n v more = rw (ne-eqb (a .measures .scale) 1 more)
-
 fed-measures : (a : Account) (c : Call) → fed a c .measures ≡ a .measures
 unfolding fed
-fed-measures a (change n v) = go (eqb (a .measures .scale) 1 && ltb n (cells (a .measures)))
-  where
-    go : (t : Bool) → pick t (record { measures = a .measures; base = set (a .base) n v }) a .measures ≡ a .measures
-    go true = refl
-    go false = refl
+fed-measures a (change n v) =
+    pick-keeps (λ (b : Account). b .measures ≡ a .measures) (eqb (a .measures .scale) 1 && ltb n (cells (a .measures))) (opening (a .measures) (set (a .base) n v)) a refl refl
 fed-measures a (route s g r) = refl
 
 -- build looks at no cost
@@ -78,26 +61,28 @@ put-accepted : (m : Measures) (base lent : List ℕ) (n v : ℕ) → buildNumber
 unfolding buildNumber
 put-accepted m base lent n v e = rw (length-set base n v) e
 
--- a store that build wrote
-written-reached : (m : Measures) (base lent : List ℕ) {st : List ℕ} → buildNumber m base lent ≡ 0 → st ≡ written (built m base) lent → Reached (opening m base) lent st
-unfolding buildInto ifAccepted
-written-reached m base lent ok e = record { accepted = ok; is-built = e ∙ rw ok }
-
 module _ (a : Account) (lent st : List ℕ) (r : Reached a lent st) where
-  change-reached : (n v : ℕ) → (changeNumber st n v ≡ 0 → a .measures .scale ≡ 1) → Reached (fed a (change n v)) lent (changeInto st n v)
-  change-reached n v only = go (ℕ-discrete (a .measures .scale) 1) (below-or n (cells (a .measures)))
-    where
-      left : changeNumber st n v ≢ 0 → fed a (change n v) ≡ a → Reached (fed a (change n v)) lent (changeInto st n v)
-      left refused same = rw (same, refused-leaves st n v refused) r
+  -- at scale 1 a change on the floor gives the build of the account that it is put into
+  put-reached : (n v : ℕ) → a .measures .scale ≡ 1 → n < cells (a .measures) → Reached (opening (a .measures) (set (a .base) n v)) lent (changeInto st n v)
+  unfolding buildInto ifAccepted
+  put-reached n v one on =
+      let number = put-accepted (a .measures) (a .base) lent n v (r .accepted) in
+      record { accepted = number; is-built = rw (number, stored r) (changed-one (a .measures) (a .base) lent (ok r) n v one on) }
 
-      go : Dec (a .measures .scale ≡ 1) → (n < cells (a .measures)) ⊎ (cells (a .measures) ≤ n) → Reached (fed a (change n v)) lent (changeInto st n v)
-      go (yes one) (inl on) =
-          rw (fed-puts a n v one on, stored r, changed-one (a .measures) (a .base) lent (ok r) n v one on)
-          (written-reached (a .measures) (set (a .base) n v) lent (put-accepted (a .measures) (a .base) lent n v (r .accepted)) refl)
-      go (yes one) (inr off) =
-          let number : changeNumber st n v ≡ 21 = rw (stored r) (refused-off (a .measures) (a .base) lent (ok r) n v off) in
-          left (λ e. omega arith) (fed-off a n v one off)
-      go (no more) other = left (λ e. more (only e)) (fed-scaled a n v more)
+  -- any other change is refused
+  change-reached : (n v : ℕ) → (changeNumber st n v ≡ 0 → a .measures .scale ≡ 1) → Reached (fed a (change n v)) lent (changeInto st n v)
+  unfolding fed
+  change-reached n v only = go (eqb (a .measures .scale) 1) (ltb n (cells (a .measures))) refl refl
+    where
+      left : changeNumber st n v ≢ 0 → Reached a lent (changeInto st n v)
+      left refused = rw (refused-leaves st n v refused) r
+
+      go : (s t : Bool) → eqb (a .measures .scale) 1 ≡ s → ltb n (cells (a .measures)) ≡ t → Reached (pick (s && t) (opening (a .measures) (set (a .base) n v)) a) lent (changeInto st n v)
+      go true true e l = put-reached n v (eqb-true (a .measures .scale) 1 e) (ltb-true n (cells (a .measures)) l)
+      go true false e l =
+          let number : changeNumber st n v ≡ 21 = rw (stored r) (refused-off (a .measures) (a .base) lent (ok r) n v (ltb-false n (cells (a .measures)) l)) in
+          left (λ z. omega arith)
+      go false t e l = left (λ z. true≢false (sym (eq-eqb (a .measures .scale) 1 (only z)) ∙ e))
 
   call-reached : (c : Call) → ((n v : ℕ) → c ≡ change n v → changeNumber st n v ≡ 0 → a .measures .scale ≡ 1) → Reached (fed a c) lent (storeAfterCall st c)
   unfolding storeAfterCall fed

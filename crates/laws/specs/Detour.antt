@@ -122,49 +122,34 @@ module _ {f : Floor} {D : ℕ} (g : Portals f D) where
         run-low = omega (arith, w .from-low);
       }
 
-  -- the first move is over a border, and there are more: the far portal of this one is joined to the near portal of the next, or is that portal
-  beside-cross : {x y z n k : ℕ} → f .Cross x y → Beside g y z n k → Beside g x z (suc n) (suc k)
-  beside-cross {x} {y} {z} {n} {k} c b = go (ℕ-discrete (w .far) (b .first))
+  -- where moves inside a sector join p to the first portal of a path, a path begins at p: an edge leads to that portal, or p is it
+  path-from : {p q r n c : ℕ} → g .Portal p → g .Portal q → Inside f (g .mid p) (g .mid q) n → Path g q r c → (d : ℕ) × (d ≤ n + c) × Path g p r d
+  path-from {p} {q} {r} {n} {c} a b i path = go (ℕ-discrete p q)
     where
-      w : Gate f D (g .Portal) (g .mid) (λ p q. g .Edge p q 1) x y
-      w = g .gate x y c
+      go : Dec (p ≡ q) → (d : ℕ) × (d ≤ n + c) × Path g p r d
+      go (yes e) = (c, omega arith, rw e path)
+      go (no e) = let j = g .edge-made p q n a b e i in (j .0 + c, omega (arith, j .1), along (j .2) path)
 
-      joins : Inside f (g .mid (w .far)) (g .mid (b .first)) (w .from + b .leg)
-      joins = inside-join (w .from-is) (b .leg-is)
-
-      go : Dec (w .far ≡ b .first) → Beside g x z (suc n) (suc k)
-      go (yes e) = record {
+  -- the first move is over a border, and there are more: a path leads on from the far portal of this one
+  beside-cross : {x y z n k : ℕ} → f .Cross x y → Beside g y z n k → Beside g x z (suc n) (suc k)
+  beside-cross {x} {y} c b =
+      let w = g .gate x y c in
+      let j = path-from (w .far-is) (b .first-is) (inside-join (w .from-is) (b .leg-is)) (b .path) in
+      record {
         first = w .near;
         last = b .last;
         first-is = w .near-is;
         last-is = b .last-is;
         before = 0;
         leg = w .to;
-        cost = 1 + b .cost;
+        cost = 1 + j .0;
         tail = b .tail;
         leg-is = w .to-is;
-        path = along (rw e at (w .over)) (b .path);
+        path = along (w .over) (j .2);
         tail-is = b .tail-is;
         leg-low = omega (arith, w .to-low);
-        run-low = omega (arith, b .run-low);
+        run-low = omega (arith, b .run-low, b .leg-low, w .from-low, j .1);
       }
-      go (no e) =
-          let j = g .edge-made (w .far) (b .first) (w .from + b .leg) (w .far-is) (b .first-is) e joins in
-          record {
-            first = w .near;
-            last = b .last;
-            first-is = w .near-is;
-            last-is = b .last-is;
-            before = 0;
-            leg = w .to;
-            cost = 1 + (j .0 + b .cost);
-            tail = b .tail;
-            leg-is = w .to-is;
-            path = along (w .over) (along (j .2) (b .path));
-            tail-is = b .tail-is;
-            leg-low = omega (arith, w .to-low);
-            run-low = omega (arith, b .run-low, b .leg-low, w .from-low, j .1);
-          }
 
   pub walk-beside : {x y n : ℕ} {over : List BorderMove} → Walk f x y n over → 0 < length over → Beside g x y n (length over)
   walk-beside (stand o) h = absurd (omega arith)
