@@ -13,7 +13,7 @@ use Rattle.model.specs.declared.Side.{Side}
 use Rattle.model.specs.Cells.{sideNumber}
 use Rattle.model.specs.Sectors.{sectors}
 use Rattle.model.specs.Halls.{Hall, markAt}
-use Rattle.model.specs.Portals.{facing, headOf, edgesOf, edges, portalGraph}
+use Rattle.model.specs.Portals.{sectorPortals, portalCount, arcCount, arcTail, arcPlace, arcAt, facing, headOf, edgesOf, edges, portalGraph}
 use Rattle.model.specs.PortalCrossings.{Fits}
 use Rattle.model.specs.PortalEdges.{portal-sound, portal-both-ways}
 use Rattle.model.specs.Store.{measuresAt, marksIn, decode}
@@ -26,71 +26,71 @@ bare m = record { measures = m; base = []; scaled = []; marks = [] }
 
 -- the weights of a hall's portal graph
 unfoldable pub edgeTable : Hall → List ℕ
-edgeTable h = tabulate (λ e. portalGraph h .weight e) (sectors (h .measures) * 400) 0
+edgeTable h = tabulate (λ e. portalGraph h .weight e) (arcCount (h .measures)) 0
 
 -- the graph that has its weights from a list
 abbrev pub tableGraph : Measures → List ℕ → Graph
 tableGraph m table = record {
-  nodes = sectors m * 20;
-  arcs = sectors m * 400;
-  tail = λ e. e / 20;
-  head = λ e. headOf (bare m) (e / 20) (e % 20);
+  nodes = portalCount m;
+  arcs = arcCount m;
+  tail = arcTail;
+  head = λ e. headOf (bare m) (arcTail e) (arcPlace e);
   weight = λ e. getD table e 0;
 }
 
 -- ---- the graph of the filled table is the portal graph
-pub length-table : (h : Hall) → length (edgeTable h) ≡ sectors (h .measures) * 400
+pub length-table : (h : Hall) → length (edgeTable h) ≡ arcCount (h .measures)
 unfolding edgeTable
-length-table h = length-tabulate (λ e. portalGraph h .weight e) (sectors (h .measures) * 400) 0
+length-table h = length-tabulate (λ e. portalGraph h .weight e) (arcCount (h .measures)) 0
 
 pub table-weight : (h : Hall) (e : ℕ) → getD (edgeTable h) e 0 ≡ portalGraph h .weight e
 unfolding edgeTable portalGraph edges
-table-weight h e = go (below-or e (sectors (h .measures) * 400))
+table-weight h e = go (below-or e (arcCount (h .measures)))
   where
-    go : (e < sectors (h .measures) * 400) ⊎ (sectors (h .measures) * 400 ≤ e) → getD (edgeTable h) e 0 ≡ portalGraph h .weight e
-    go (inl l) = tabulate-at (λ a. portalGraph h .weight a) (sectors (h .measures) * 400) e 0 l
+    go : (e < arcCount (h .measures)) ⊎ (arcCount (h .measures) ≤ e) → getD (edgeTable h) e 0 ≡ portalGraph h .weight e
+    go (inl l) = tabulate-at (λ a. portalGraph h .weight a) (arcCount (h .measures)) e 0 l
     go (inr l) =
-        let past : length (tabulate (edgesOf h) (sectors (h .measures) * 20) 0) ≤ e / 20 = omega (arith, length-tabulate (edgesOf h) (sectors (h .measures) * 20) 0) in
-        List·getD-eq-default (edgeTable h) 0 (omega (arith, length-table h)) ∙ sym (ap (λ (row : List ℕ). getD row (e % 20) 0) (List·getD-eq-default (tabulate (edgesOf h) (sectors (h .measures) * 20) 0) [] past))
+        let past : length (tabulate (edgesOf h) (portalCount (h .measures)) 0) ≤ e / 20 = omega (arith, length-tabulate (edgesOf h) (portalCount (h .measures)) 0) in
+        List·getD-eq-default (edgeTable h) 0 (omega (arith, length-table h)) ∙ sym (ap (λ (row : List ℕ). getD row (e % 20) 0) (List·getD-eq-default (tabulate (edgesOf h) (portalCount (h .measures)) 0) [] past))
 
 pub table-graph : (h : Hall) → tableGraph (h .measures) (edgeTable h) ≡ portalGraph h
 unfolding portalGraph headOf facing
 table-graph h = λ i. record {
-  nodes = sectors (h .measures) * 20;
-  arcs = sectors (h .measures) * 400;
-  tail = λ e. e / 20;
-  head = λ e. headOf h (e / 20) (e % 20);
+  nodes = portalCount (h .measures);
+  arcs = arcCount (h .measures);
+  tail = arcTail;
+  head = λ e. headOf h (arcTail e) (arcPlace e);
   weight = λ e. table-weight h e i;
 }
 
 -- ---- filling it
 -- the first n weights stand in the list
 abbrev pub Filled : Hall → ℕ → List ℕ → Type 0
-Filled h n t = Tabled (λ e. portalGraph h .weight e) (sectors (h .measures) * 400) n t
+Filled h n t = Tabled (λ e. portalGraph h .weight e) (arcCount (h .measures)) n t
 
-pub filled-all : (h : Hall) {n : ℕ} {t : List ℕ} → Filled h n t → sectors (h .measures) * 400 ≤ n → t ≡ edgeTable h
+pub filled-all : (h : Hall) {n : ℕ} {t : List ℕ} → Filled h n t → arcCount (h .measures) ≤ n → t ≡ edgeTable h
 unfolding edgeTable
 filled-all h f l = tabled-all f l
 
 -- the first c places of number p hold what g says: a list that was filled up to them by a rule, which g follows there, is filled up to their end
 pub record Row (g : ℕ → ℕ) (p c : ℕ) (t₀ t : List ℕ) : Type 0 where
-  pub within : c ≤ 20
+  pub within : c ≤ sectorPortals
   pub long : length t ≡ length t₀
-  pub grown : (f : ℕ → ℕ) (n : ℕ) → Tabled f n (p * 20) t₀ → ((k : ℕ) → k < 20 → g k ≡ f (p * 20 + k)) → Tabled f n (p * 20 + c) t
+  pub grown : (f : ℕ → ℕ) (n : ℕ) → Tabled f n (p * sectorPortals) t₀ → ((k : ℕ) → k < sectorPortals → g k ≡ f (arcAt p k)) → Tabled f n (arcAt p c) t
 
 pub row-none : (g : ℕ → ℕ) (p : ℕ) (t : List ℕ) → Row g p 0 t t
-row-none g p t = record { within = omega arith; long = refl; grown = λ f n r _. rw (add-zero (p * 20)) r }
+row-none g p t = record { within = omega arith; long = refl; grown = λ f n r _. rw (add-zero (p * sectorPortals)) r }
 
-pub row-more : {g : ℕ → ℕ} {p c w : ℕ} {t₀ t : List ℕ} → Row g p c t₀ t → c < 20 → p * 20 + 20 ≤ length t₀ → w ≡ g c → Row g p (c + 1) t₀ (set t (p * 20 + c) w)
+pub row-more : {g : ℕ → ℕ} {p c w : ℕ} {t₀ t : List ℕ} → Row g p c t₀ t → c < sectorPortals → p * sectorPortals + sectorPortals ≤ length t₀ → w ≡ g c → Row g p (c + 1) t₀ (set t (arcAt p c) w)
 row-more {g} {p} {c} {w} {t₀} {t} row l k e =
-    let sum : p * 20 + (c + 1) ≡ p * 20 + c + 1 = omega arith in
+    let sum : p * sectorPortals + (c + 1) ≡ arcAt p c + 1 = omega arith in
     record {
       within = omega arith;
-      long = length-set t (p * 20 + c) w ∙ row .long;
+      long = length-set t (arcAt p c) w ∙ row .long;
       grown = λ f n r same. rw sum (tabled-more (row .grown f n r same) (omega (arith, r .long)) (e ∙ same c l));
     }
 
-pub row-all : {g : ℕ → ℕ} {p c : ℕ} {t₀ t : List ℕ} → Row g p c t₀ t → 20 ≤ c → Row g p 20 t₀ t
+pub row-all : {g : ℕ → ℕ} {p c : ℕ} {t₀ t : List ℕ} → Row g p c t₀ t → sectorPortals ≤ c → Row g p sectorPortals t₀ t
 row-all {g} {p} {c} {t₀} {t} row l = subst (λ (k : ℕ). Row g p k t₀ t) (omega (arith, row .within)) row
 
 -- ---- a store that passes the check

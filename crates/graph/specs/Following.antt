@@ -19,7 +19,7 @@ use Rattle.model.specs.Cells.{sideNumber, sideAt}
 use Rattle.model.specs.Sectors.{sectors}
 use Rattle.model.specs.Windows.{borderCell, firstPlace, lastPlace}
 use Rattle.model.specs.Halls.{Hall}
-use Rattle.model.specs.Portals.{portalMark, isPortal, headOf, key, portalGraph}
+use Rattle.model.specs.Portals.{portalCount, arcCount, portalSector, portalSide, portalWindow, arcTail, arcPlace, portalMark, isPortal, headOf, key, portalGraph}
 use Rattle.model.specs.LeastPath.{cellRank, nodeRank, unlinked, keysTo, leastPath}
 use Rattle.model.specs.PortalEdges.{weight-low, head-portal, portal-sound}
 use Rattle.model.specs.LeastPathFirst.{portal-keyed, keys-settled}
@@ -32,7 +32,7 @@ use Rattle.graph.specs.Searching.{Searched}
 pub record Linked (m : Measures) (st table : List ℕ) (keys : ℕ) : Type 0 where
   pub opened : Opened m st
   pub filled : table ≡ edgeTable (decode st)
-  pub numbers : keys ≡ sectors m * 20
+  pub numbers : keys ≡ portalCount m
 
 module _ {m : Measures} {st table : List ℕ} {keys : ℕ} (k : Linked m st table keys) where
   -- the table stands for the portal graph
@@ -46,58 +46,58 @@ module _ {m : Measures} {st table : List ℕ} {keys : ℕ} (k : Linked m st tabl
       record {
         few = few .few-sectors;
         few-rows = few .few-rows;
-        long = ap length (k .filled) ∙ length-table (decode st) ∙ ap (λ (n : Measures). sectors n * 400) (measures-are (k .opened));
+        long = ap length (k .filled) ∙ length-table (decode st) ∙ ap (λ (n : Measures). arcCount n) (measures-are (k .opened));
         numbers = k .numbers;
         room = omega (arith, few .few-sectors);
         sound = subst (λ (g : Graph). Sound g) (ap (λ (n : Measures). tableGraph n (edgeTable (decode st))) (measures-are (k .opened)) ∙ ap (tableGraph m) (sym (k .filled))) (table-sound (fits-of (k .opened)));
         light = λ e l. omega (arith, low e l);
       }
     where
-      low : (e : ℕ) → e < sectors m * 400 → getD table e 0 ≤ key 254
+      low : (e : ℕ) → e < arcCount m → getD table e 0 ≤ key 254
       low = subst (λ (g : Graph). (e : ℕ) → e < g .arcs → g .weight e ≤ key 254) (sym graph-is) (weight-low (decode st) (fits-of (k .opened)))
 
   pub searched-both-ways : BothWays (tableGraph m table)
   searched-both-ways = subst (λ (g : Graph). BothWays g) (ap (λ (n : Measures). tableGraph n (edgeTable (decode st))) (measures-are (k .opened)) ∙ ap (tableGraph m) (sym (k .filled))) (table-both-ways (fits-of (k .opened)))
 
   -- its arcs lead to portals
-  leads : (a : ℕ) → a < sectors m * 400 → 0 < getD table a 0 → isPortal (decode st) (headOf (bare m) (a / 20) (a % 20)) ≡ true
+  leads : (a : ℕ) → a < arcCount m → 0 < getD table a 0 → isPortal (decode st) (headOf (bare m) (arcTail a) (arcPlace a)) ≡ true
   leads = subst (λ (g : Graph). (a : ℕ) → a < g .arcs → 0 < g .weight a → isPortal (decode st) (g .head a) ≡ true) (sym graph-is) (head-portal (decode st) (fits-of (k .opened)))
 
-  pub leads-to : (u a v : ℕ) → u ≡ a / 20 → v ≡ headOf (bare m) u (a % 20) → a < sectors m * 400 → 0 < getD table a 0 → isPortal (decode st) v ≡ true
-  leads-to u a v e f l p = ap (isPortal (decode st)) (f ∙ ap (λ (x : ℕ). headOf (bare m) x (a % 20)) e) ∙ leads a l p
+  pub leads-to : (u a v : ℕ) → u ≡ arcTail a → v ≡ headOf (bare m) u (arcPlace a) → a < arcCount m → 0 < getD table a 0 → isPortal (decode st) v ≡ true
+  leads-to u a v e f l p = ap (isPortal (decode st)) (f ∙ ap (λ (x : ℕ). headOf (bare m) x (arcPlace a)) e) ∙ leads a l p
 
 -- ---- the order of portals
 -- none yet, or a portal
 abbrev pub Best : Measures → List ℕ → ℕ → Type 0
-Best m st best = (best ≡ sectors m * 20) ⊎ (isPortal (decode st) best ≡ true)
+Best m st best = (best ≡ portalCount m) ⊎ (isPortal (decode st) best ≡ true)
 
 -- a rank from its parts
-pub rank-is : (st : List ℕ) (p : ℕ) {side : Side} {a b : ℕ} → side ≡ sideAt (p % 20 / 5) → a ≡ cellRank (borderCell side (firstPlace (portalMark (decode st) p) (p % 5))) → b ≡ cellRank (borderCell side (lastPlace (portalMark (decode st) p) (p % 5)))
-    → ((p / 20 * 100 + a) * 100 + b) * 4 + sideNumber side ≡ nodeRank (decode st) p
+pub rank-is : (st : List ℕ) (p : ℕ) {side : Side} {a b : ℕ} → side ≡ portalSide p → a ≡ cellRank (borderCell side (firstPlace (portalMark (decode st) p) (portalWindow p))) → b ≡ cellRank (borderCell side (lastPlace (portalMark (decode st) p) (portalWindow p)))
+    → ((portalSector p * 100 + a) * 100 + b) * 4 + sideNumber side ≡ nodeRank (decode st) p
 unfolding nodeRank
 rank-is st p e f g = rw (f, g, e)
 
 module _ (m : Measures) (table : List ℕ) (rank : ℕ → ℕ) (a best : ℕ) where
-  pub better-none : best ≡ sectors m * 20 → true ≡ better (tableGraph m table) rank a best
+  pub better-none : best ≡ portalCount m → true ≡ better (tableGraph m table) rank a best
   unfolding better
-  better-none e = rw (eq-eqb best (sectors m * 20) e)
+  better-none e = rw (eq-eqb best (portalCount m) e)
 
-  pub better-some : (best ≡ sectors m * 20 → ⊥) → {x y : ℕ} → x ≡ rank a → y ≡ rank best → ltb x y ≡ better (tableGraph m table) rank a best
+  pub better-some : (best ≡ portalCount m → ⊥) → {x y : ℕ} → x ≡ rank a → y ≡ rank best → ltb x y ≡ better (tableGraph m table) rank a best
   unfolding better
-  better-some e f g = rw (ne-eqb best (sectors m * 20) e, f, g)
+  better-some e f g = rw (ne-eqb best (portalCount m) e, f, g)
 
 -- ---- one arc
 -- arc a from u to v
-module _ (m : Measures) (table : List ℕ) (rank : ℕ → ℕ) (keys : List ℕ) (u a best : ℕ) (from : u ≡ a / 20) where
+module _ (m : Measures) (table : List ℕ) (rank : ℕ → ℕ) (keys : List ℕ) (u a best : ℕ) (from : u ≡ arcTail a) where
   pub passes-by : getD table a 0 ≡ 0 → best ≡ closer (tableGraph m table) rank keys u a best
   passes-by z = next-skip (tableGraph m table) rank keys u a best (λ p q r. omega arith)
 
   pub too-short : getD keys u 0 < getD table a 0 → best ≡ closer (tableGraph m table) rank keys u a best
   too-short l = next-skip (tableGraph m table) rank keys u a best (λ p q r. omega arith)
 
-  module _ (v : ℕ) (to : v ≡ headOf (bare m) u (a % 20)) where
-    head-is : v ≡ headOf (bare m) (a / 20) (a % 20)
-    head-is = to ∙ ap (λ (x : ℕ). headOf (bare m) x (a % 20)) from
+  module _ (v : ℕ) (to : v ≡ headOf (bare m) u (arcPlace a)) where
+    head-is : v ≡ headOf (bare m) (arcTail a) (arcPlace a)
+    head-is = to ∙ ap (λ (x : ℕ). headOf (bare m) x (arcPlace a)) from
 
     pub not-exact : (getD keys u 0 ≡ getD keys v 0 + getD table a 0 → ⊥) → best ≡ closer (tableGraph m table) rank keys u a best
     not-exact n = next-skip (tableGraph m table) rank keys u a best (λ p q r. n (omega (arith, q, ap (λ (x : ℕ). getD keys x 0) head-is)))
@@ -113,52 +113,52 @@ module _ (m : Measures) (table : List ℕ) (rank : ℕ → ℕ) (keys : List ℕ
 
 -- ---- all arcs of u
 module _ (m : Measures) (table : List ℕ) (rank : ℕ → ℕ) (keys : List ℕ) (u : ℕ) where
-  pub next-begins : sectors m * 20 ≡ next (tableGraph m table) rank keys u (u * 20)
+  pub next-begins : portalCount m ≡ next (tableGraph m table) rank keys u (u * 20)
   unfolding next
   next-begins = let q : 0 + u * 20 ≡ u * 20 = omega arith in sym (rw q at (next-same (tableGraph m table) rank keys u 0 (u * 20) (λ e a b t. omega arith)))
 
-  pub next-ends : (a : ℕ) → u * 20 + 20 ≡ a → a ≤ sectors m * 400 → next (tableGraph m table) rank keys u a ≡ next (tableGraph m table) rank keys u (sectors m * 400)
+  pub next-ends : (a : ℕ) → u * 20 + 20 ≡ a → a ≤ arcCount m → next (tableGraph m table) rank keys u a ≡ next (tableGraph m table) rank keys u (arcCount m)
   next-ends a e l =
-      let q : a + (sectors m * 400 - a) ≡ sectors m * 400 = omega arith in
-      sym (rw q at (next-same (tableGraph m table) rank keys u a (sectors m * 400 - a) (λ f x y t. omega arith)))
+      let q : a + (arcCount m - a) ≡ arcCount m = omega arith in
+      sym (rw q at (next-same (tableGraph m table) rank keys u a (arcCount m - a) (λ f x y t. omega arith)))
 
 -- ---- along the path
 -- i portals of the path from p are written, and u is the next
 pub record Walked (m : Measures) (st table keys : List ℕ) (p : ℕ) (old new : List ℕ) (u i : ℕ) : Type 0 where
   pub goal : ℕ
-  pub inside : goal < sectors m * 20
+  pub inside : goal < portalCount m
   pub start : getD keys goal 0 ≡ 0
-  pub few : length (path (tableGraph m table) (nodeRank (decode st)) keys (getD keys p 0) p) ≤ sectors m * 20
+  pub few : length (path (tableGraph m table) (nodeRank (decode st)) keys (getD keys p 0) p) ≤ portalCount m
   pub tracing : Tracing (tableGraph m table) (nodeRank (decode st)) goal p keys old new u i
 
 module _ {m : Measures} {st table keys : List ℕ} (k : Linked m st table (length keys)) where
-  pub walk-begins : (p : ℕ) (old : List ℕ) → p < sectors m * 20 → getD keys p 0 < unlinked → sectors m * 20 ≤ length old → (e : ℕ) → e < sectors m * 20 → keys ≡ keysTo (portalGraph (decode st)) e → Walked m st table keys p old old p 0
+  pub walk-begins : (p : ℕ) (old : List ℕ) → p < portalCount m → getD keys p 0 < unlinked → portalCount m ≤ length old → (e : ℕ) → e < portalCount m → keys ≡ keysTo (portalGraph (decode st)) e → Walked m st table keys p old old p 0
   walk-begins p old l below room e le is =
       let h = decode st in
-      let all : portalGraph h .nodes ≡ sectors m * 20 = sym (ap (λ (g : Graph). g .nodes) (graph-is k)) in
+      let all : portalGraph h .nodes ≡ portalCount m = sym (ap (λ (g : Graph). g .nodes) (graph-is k)) in
       let fits = fits-of (k .opened) in
       let ok : Settled (turned (portalGraph h)) e unlinked keys = rw is (keys-settled h fits e (omega arith)) in
       let edges = few-edges (portal-keyed h fits) ok (nodeRank h) p (omega arith) below in
-      let low : length (path (portalGraph h) (nodeRank h) keys (getD keys p 0) p) ≤ sectors m * 20 = omega (arith, edges .0, edges .1) in
+      let low : length (path (portalGraph h) (nodeRank h) keys (getD keys p 0) p) ≤ portalCount m = omega (arith, edges .0, edges .1) in
       record {
         goal = e;
         inside = le;
         start = ok .rough .start;
-        few = subst (λ (g : Graph). length (path g (nodeRank h) keys (getD keys p 0) p) ≤ sectors m * 20) (sym (graph-is k)) low;
+        few = subst (λ (g : Graph). length (path g (nodeRank h) keys (getD keys p 0) p) ≤ portalCount m) (sym (graph-is k)) low;
         tracing = subst (λ (g : Graph). Tracing g (nodeRank h) e p keys old old p 0) (sym (graph-is k)) (tracing-none ok (portal-sound h fits) (omega arith) below (omega arith));
       }
 
   module _ {p : ℕ} {old new : List ℕ} {u i : ℕ} (w : Walked m st table keys p old new u i) where
-    pub walk-at : u < sectors m * 20
+    pub walk-at : u < portalCount m
     walk-at = tracing-node (w .tracing) (searched-of k .sound) (w .inside)
 
-    pub walk-room : (i < length new) × (i < sectors m * 20)
+    pub walk-room : (i < length new) × (i < portalCount m)
     walk-room = (tracing-room (w .tracing) .0, omega (arith, tracing-room (w .tracing) .1, w .few))
 
     pub walk-long : length new ≡ length old
     walk-long = omega (arith, ap length (w .tracing .written), length-append (w .tracing .passed) (drop i old), length-drop i old, w .tracing .many, tracing-room (w .tracing) .1, w .tracing .room)
 
-    pub walk-on : {v : ℕ} → (getD keys u 0 ≡ 0 → ⊥) → v ≡ next (tableGraph m table) (nodeRank (decode st)) keys u (sectors m * 400) → Walked m st table keys p old (set new i u) v (i + 1)
+    pub walk-on : {v : ℕ} → (getD keys u 0 ≡ 0 → ⊥) → v ≡ next (tableGraph m table) (nodeRank (decode st)) keys u (arcCount m) → Walked m st table keys p old (set new i u) v (i + 1)
     walk-on n e = rw e (record { goal = w .goal; inside = w .inside; start = w .start; few = w .few; tracing = tracing-more (w .tracing) (w .start) n })
 
     pub walk-ends : getD keys u 0 ≡ 0

@@ -16,7 +16,7 @@ use Rattle.model.specs.Sectors.{sectorOf, placeOf, costsOf}
 use Rattle.model.specs.Moves.{moves, movesTo, joined, apart}
 use Rattle.model.specs.MovesFewest.{joined-back, moves-settled}
 use Rattle.model.specs.Halls.{Hall}
-use Rattle.model.specs.Portals.{isPortal, midpoint, midCell}
+use Rattle.model.specs.Portals.{sectorPortals, placePortal, isPortal, midpoint, midCell}
 use Rattle.model.specs.PortalCrossings.{Fits, mid-low, mid-sector, mid-place}
 
 -- the index of a portal's midpoint, or 100
@@ -24,7 +24,7 @@ unfoldable pub midOf : Hall → ℕ → ℕ
 midOf h p = pick (isPortal h p) (midpoint h p) 100
 
 unfoldable pub sectorMids : Hall → ℕ → List ℕ
-sectorMids h s = tabulate (λ c. midOf h (s * 20 + c)) 20 0
+sectorMids h s = tabulate (λ c. midOf h (placePortal s c)) sectorPortals 0
 
 -- the moves to a midpoint, by the moves to the cells of its sector
 unfoldable pub nearBy : List ℕ → ℕ → ℕ
@@ -32,7 +32,7 @@ nearBy from mid = pick (ltb mid 100) (getD from mid 0) apart
 
 -- from cell x to the portals of its sector
 unfoldable pub portalMoves : Hall → ℕ → List ℕ
-portalMoves h x = tabulate (λ c. nearBy (moves (costsOf (h .scaled) (sectorOf x)) (placeOf x)) (midOf h (sectorOf x * 20 + c))) 20 0
+portalMoves h x = tabulate (λ c. nearBy (moves (costsOf (h .scaled) (sectorOf x)) (placeOf x)) (midOf h (placePortal (sectorOf x) c))) sectorPortals 0
 
 -- in the cases that code meets
 pub mid-some : (h : Hall) (p : ℕ) {n : ℕ} → isPortal h p ≡ true → n ≡ midpoint h p → n ≡ midOf h p
@@ -70,9 +70,9 @@ same-sector costs x y {from} e f = rw (f, eq-eqb (sectorOf x) (sectorOf y) e) (g
     go (inr l) = rw (le-ltb (getD d (placeOf y) 0) apart l) (omega (arith, cap))
 
 -- entries by the moves of the sector and its midpoints
-pub near-list : (h : Hall) (x : ℕ) {from mids near : List ℕ} {c : ℕ} → from ≡ moves (costsOf (h .scaled) (sectorOf x)) (placeOf x) → mids ≡ sectorMids h (sectorOf x) → Tabled (λ k. nearBy from (getD mids k 0)) 20 c near → 20 ≤ c → near ≡ portalMoves h x
+pub near-list : (h : Hall) (x : ℕ) {from mids near : List ℕ} {c : ℕ} → from ≡ moves (costsOf (h .scaled) (sectorOf x)) (placeOf x) → mids ≡ sectorMids h (sectorOf x) → Tabled (λ k. nearBy from (getD mids k 0)) sectorPortals c near → sectorPortals ≤ c → near ≡ portalMoves h x
 unfolding sectorMids portalMoves
-near-list h x {from} {mids} e f t l = tabled-all (tabled-same t (λ k b. rw e (ap (nearBy (moves (costsOf (h .scaled) (sectorOf x)) (placeOf x))) (table-at (λ c. midOf h (sectorOf x * 20 + c)) 20 f k 0 b)))) l
+near-list h x {from} {mids} e f t l = tabled-all (tabled-same t (λ k b. rw e (ap (nearBy (moves (costsOf (h .scaled) (sectorOf x)) (placeOf x))) (table-at (λ c. midOf h (placePortal (sectorOf x) c)) sectorPortals f k 0 b)))) l
 
 -- "joined" goes both ways
 joined-same : (costs : List ℕ) (x y : ℕ) → joined costs y x ≡ joined costs x y
@@ -85,13 +85,13 @@ joined-same costs x y = go (joined costs x y) (joined costs y x) refl refl
     go false false e f = refl
 
 -- ---- what the entry of place c says
-module _ (h : Hall) (fits : Fits h) (x c : ℕ) (low : c < 20) where
+module _ (h : Hall) (fits : Fits h) (x c : ℕ) (low : c < sectorPortals) where
   abbrev number : ℕ
-  number = sectorOf x * 20 + c
+  number = placePortal (sectorOf x) c
 
   entry-is : getD (portalMoves h x) c 0 ≡ nearBy (moves (costsOf (h .scaled) (sectorOf x)) (placeOf x)) (midOf h number)
   unfolding portalMoves
-  entry-is = tabulate-at (λ d. nearBy (moves (costsOf (h .scaled) (sectorOf x)) (placeOf x)) (midOf h (sectorOf x * 20 + d))) 20 c 0 low
+  entry-is = tabulate-at (λ d. nearBy (moves (costsOf (h .scaled) (sectorOf x)) (placeOf x)) (midOf h (placePortal (sectorOf x) d))) sectorPortals c 0 low
 
   none-there : isPortal h number ≡ false → getD (portalMoves h x) c 0 ≡ apart
   unfolding midOf nearBy

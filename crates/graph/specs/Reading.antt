@@ -12,7 +12,7 @@ use Rattle.model.specs.Cells.{sideNumber, sideAt}
 use Rattle.model.specs.Sectors.{sectors, cells}
 use Rattle.model.specs.Accepted.{Accepted}
 use Rattle.model.specs.Windows.{windowCount, firstPlace, lastPlace}
-use Rattle.model.specs.Portals.{portalMark, isPortal}
+use Rattle.model.specs.Portals.{portalSector, portalWindow, portalMark, isPortal}
 use Rattle.model.specs.Sides.{number-side}
 use Rattle.model.specs.PortalNumbers.{portal-is}
 use Rattle.model.specs.PortalCrossings.{Fits, portal-run}
@@ -44,7 +44,7 @@ module _ {m : Measures} {st : List ℕ} (o : Opened m st) where
   fits-of = checked-fits (o .passes)
 
   -- the mark of a portal's side
-  pub mark-read : (p : ℕ) → p / 20 < sectors m → u16At st (4 + 2 * cells m + 2 * (p / 5)) ≡ portalMark (decode st) p
+  pub mark-read : (p : ℕ) → portalSector p < sectors m → u16At st (4 + 2 * cells m + 2 * (p / 5)) ≡ portalMark (decode st) p
   mark-read p =
       let place : p / 20 * 4 + sideNumber (sideAt (p % 20 / 5)) ≡ p / 5 = omega (arith, number-side (p % 20 / 5) (omega arith)) in
       rw (o .read, place) (λ l. sym (marks-at st (p / 5) (omega arith)))
@@ -52,20 +52,20 @@ module _ {m : Measures} {st : List ℕ} (o : Opened m st) where
   pub mark-low : (p : ℕ) → portalMark (decode st) p ≤ 1023
   mark-low p = omega (arith, fits-of .marked (p / 20) (sideAt (p % 20 / 5)))
 
-  pub no-sector : (p : ℕ) → sectors m ≤ p / 20 → false ≡ isPortal (decode st) p
+  pub no-sector : (p : ℕ) → sectors m ≤ portalSector p → false ≡ isPortal (decode st) p
   unfolding isPortal decode
   no-sector p = rw (o .read) (λ l. rw (le-ltb (p / 20) (sectors (measuresAt st)) l))
 
-  pub window-test : (p n : ℕ) → p / 20 < sectors m → n ≡ windowCount (portalMark (decode st) p) → ltb (p % 5) n ≡ isPortal (decode st) p
+  pub window-test : (p n : ℕ) → portalSector p < sectors m → n ≡ windowCount (portalMark (decode st) p) → ltb (portalWindow p) n ≡ isPortal (decode st) p
   unfolding isPortal decode
   window-test p n = rw (o .read) (λ l e. rw (lt-ltb (p / 20) (sectors (measuresAt st)) l, e))
 
   -- a portal's sector
-  pub portal-sector : (p : ℕ) → isPortal (decode st) p ≡ true → p / 20 < sectors m
+  pub portal-sector : (p : ℕ) → isPortal (decode st) p ≡ true → portalSector p < sectors m
   portal-sector p e = rw (← measures-are) (portal-is (decode st) p e .inside)
 
   -- the places that were found of a portal's window
-  pub places-of : (p : ℕ) → isPortal (decode st) p ≡ true → {n : ℕ} {w : OpenRun} → n ≡ portalMark (decode st) p → w ≡ placesOf n (p % 5) → Places (portalMark (decode st) p) (p % 5) w
+  pub places-of : (p : ℕ) → isPortal (decode st) p ≡ true → {n : ℕ} {w : OpenRun} → n ≡ portalMark (decode st) p → w ≡ placesOf n (portalWindow p) → Places (portalMark (decode st) p) (portalWindow p) w
   places-of p e q f =
       let run = portal-run (decode st) fits-of p e in
       rw (f, q) (record { begins = refl; ends = refl; low-first = omega (arith, run .ordered, run .inside); low-last = run .inside })

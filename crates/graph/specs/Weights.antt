@@ -17,7 +17,7 @@ use Rattle.model.specs.Cells.{sideAt}
 use Rattle.model.specs.Sectors.{sectors, cells, sectorOf, placeOf, costsOf, hasBeyond}
 use Rattle.model.specs.Moves.{moves, apart}
 use Rattle.model.specs.Halls.{Hall}
-use Rattle.model.specs.Portals.{isPortal, midpoint, movesFrom, facing, key, outerEdge, innerEdge, edgeAt, portalGraph}
+use Rattle.model.specs.Portals.{sectorPortals, arcCount, portalSector, portalSide, portalPlace, placePortal, arcAt, isPortal, midpoint, movesFrom, facing, key, outerEdge, innerEdge, edgeAt, portalGraph}
 use Rattle.model.specs.PortalCrossings.{Fits, mid-low}
 use Rattle.model.specs.PortalEdges.{weight-at}
 use Rattle.model.specs.Store.{measuresAt, decode}
@@ -26,7 +26,7 @@ use Rattle.graph.specs.EdgeTable.{Opened, bare}
 use Rattle.graph.specs.Near.{midOf, sectorMids, nearBy, mid-some, mid-none}
 
 -- the edge to the facing portal q: x says whether there is a sector beyond, y whether q is a portal
-pub outer-is : {m : Measures} {st : List ℕ} → Opened m st → (p : ℕ) (x y : Bool) {side : Side} {b d : Bool} {q : ℕ} → side ≡ sideAt (p % 20 / 5) → b ≡ hasBeyond m (p / 20) side → b ≡ x → q ≡ facing (bare m) p → d ≡ isPortal (decode st) q → d ≡ y → pick (x && y) (key 1) 0 ≡ outerEdge (decode st) p
+pub outer-is : {m : Measures} {st : List ℕ} → Opened m st → (p : ℕ) (x y : Bool) {side : Side} {b d : Bool} {q : ℕ} → side ≡ portalSide p → b ≡ hasBeyond m (portalSector p) side → b ≡ x → q ≡ facing (bare m) p → d ≡ isPortal (decode st) q → d ≡ y → pick (x && y) (key 1) 0 ≡ outerEdge (decode st) p
 unfolding outerEdge facing decode
 outer-is o p x y e f b g k d = rw (← b, ← d, k, g, f, e, o .read) refl
 
@@ -58,29 +58,29 @@ inner-by h fits from q = go (isPortal h q) refl
     go false e = rw e refl
 
 -- what the midpoints of its sector say of number p
-module _ (h : Hall) (p : ℕ) {mids : List ℕ} (given : mids ≡ sectorMids h (p / 20)) where
+module _ (h : Hall) (p : ℕ) {mids : List ℕ} (given : mids ≡ sectorMids h (portalSector p)) where
   pub mids-long : length mids ≡ 20
   unfolding sectorMids
-  mids-long = rw given (length-tabulate (λ k. midOf h (p / 20 * 20 + k)) 20 0)
+  mids-long = rw given (length-tabulate (λ k. midOf h (placePortal (portalSector p) k)) 20 0)
 
-  place-mid : (c : ℕ) → c < 20 → getD mids c 0 ≡ midOf h (p / 20 * 20 + c)
+  place-mid : (c : ℕ) → c < sectorPortals → getD mids c 0 ≡ midOf h (placePortal (portalSector p) c)
   unfolding sectorMids
-  place-mid c l = table-at (λ k. midOf h (p / 20 * 20 + k)) 20 given c 0 l
+  place-mid c l = table-at (λ k. midOf h (placePortal (portalSector p) k)) 20 given c 0 l
 
-  own-mid : getD mids (p % 20) 0 ≡ midOf h p
-  own-mid = let same : p / 20 * 20 + p % 20 ≡ p = omega arith in place-mid (p % 20) (omega arith) ∙ ap (λ (k : ℕ). midOf h k) same
+  own-mid : getD mids (portalPlace p) 0 ≡ midOf h p
+  own-mid = let same : placePortal (portalSector p) (portalPlace p) ≡ p = omega arith in place-mid (portalPlace p) (omega arith) ∙ ap (λ (k : ℕ). midOf h k) same
 
-  pub own-none : Fits h → 100 ≤ getD mids (p % 20) 0 → isPortal h p ≡ false
+  pub own-none : Fits h → 100 ≤ getD mids (portalPlace p) 0 → isPortal h p ≡ false
   own-none fits l = go (isPortal h p) refl
     where
       go : (t : Bool) → isPortal h p ≡ t → isPortal h p ≡ false
       go true e = absurd (omega (arith, own-mid, mid-some h p e refl, mid-low h fits p e))
       go false e = e
 
-  pub own-some : getD mids (p % 20) 0 < 100 → (isPortal h p ≡ true) × (getD mids (p % 20) 0 ≡ midpoint h p)
+  pub own-some : getD mids (portalPlace p) 0 < 100 → (isPortal h p ≡ true) × (getD mids (portalPlace p) 0 ≡ midpoint h p)
   own-some l = go (isPortal h p) refl
     where
-      go : (t : Bool) → isPortal h p ≡ t → (isPortal h p ≡ true) × (getD mids (p % 20) 0 ≡ midpoint h p)
+      go : (t : Bool) → isPortal h p ≡ t → (isPortal h p ≡ true) × (getD mids (portalPlace p) 0 ≡ midpoint h p)
       go true e = (e, own-mid ∙ sym (mid-some h p e refl))
       go false e = absurd (omega (arith, own-mid, mid-none h p e))
 
@@ -92,20 +92,20 @@ moves-own h p mid {x} a b l e =
     e ∙ rw (sector, place) refl
 
 -- the graph's weight at place c of number p
-module _ (h : Hall) (p c : ℕ) (low : c < 20) (inside : p * 20 + c < sectors (h .measures) * 400) where
-  weight-is : portalGraph h .weight (p * 20 + c) ≡ pick (isPortal h p) (edgeAt h p (movesFrom h p) c) 0
+module _ (h : Hall) (p c : ℕ) (low : c < sectorPortals) (inside : arcAt p c < arcCount (h .measures)) where
+  weight-is : portalGraph h .weight (arcAt p c) ≡ pick (isPortal h p) (edgeAt h p (movesFrom h p) c) 0
   weight-is =
-      let tail : (p * 20 + c) / 20 ≡ p = omega arith in
-      let place : (p * 20 + c) % 20 ≡ c = omega arith in
-      let in-arcs : p * 20 + c < portalGraph h .arcs = unfold portalGraph in inside in
-      rw (tail, place) at (weight-at h (p * 20 + c) in-arcs)
+      let tail : (arcAt p c) / 20 ≡ p = omega arith in
+      let place : (arcAt p c) % 20 ≡ c = omega arith in
+      let in-arcs : arcAt p c < portalGraph h .arcs = unfold portalGraph in inside in
+      rw (tail, place) at (weight-at h (arcAt p c) in-arcs)
 
-  pub weight-none : isPortal h p ≡ false → 0 ≡ portalGraph h .weight (p * 20 + c)
+  pub weight-none : isPortal h p ≡ false → 0 ≡ portalGraph h .weight (arcAt p c)
   weight-none e = sym (weight-is ∙ rw e refl)
 
-  pub weight-by : Fits h → {from mids : List ℕ} {outer : ℕ} → isPortal h p ≡ true → from ≡ movesFrom h p → mids ≡ sectorMids h (p / 20) → outer ≡ outerEdge h p → edgeBy from (getD mids c 0) outer (p % 20) c ≡ portalGraph h .weight (p * 20 + c)
+  pub weight-by : Fits h → {from mids : List ℕ} {outer : ℕ} → isPortal h p ≡ true → from ≡ movesFrom h p → mids ≡ sectorMids h (portalSector p) → outer ≡ outerEdge h p → edgeBy from (getD mids c 0) outer (portalPlace p) c ≡ portalGraph h .weight (arcAt p c)
   unfolding edgeBy edgeAt
-  weight-by fits e f g o = rw (place-mid h p g c low, f, o, inner-by h fits (movesFrom h p) (p / 20 * 20 + c)) (sym (weight-is ∙ rw e refl))
+  weight-by fits e f g o = rw (place-mid h p g c low, f, o, inner-by h fits (movesFrom h p) (placePortal (portalSector p) c)) (sym (weight-is ∙ rw e refl))
 
 -- the scaled costs of a sector, where the store has them
 costs-read : {m : Measures} {st : List ℕ} → Opened m st → (s : ℕ) → s < sectors m → region (4 + cells m + s * 100) 100 st ≡ costsOf (decode st .scaled) s

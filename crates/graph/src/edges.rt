@@ -9,7 +9,6 @@ ghost use Rattle.moves.specs.Levels.{openWords, movesIn};
 ghost use Rattle.graph.specs.EdgeTable.{Opened, Filled, Row, edgeTable};
 ghost use Rattle.graph.specs.Near.{sectorMids};
 ghost use Rattle.graph.specs.Weights.{edgeBy};
-use crate::keys::KEY_STEP;
 use crate::near::NO_CROSSING;
 use crate::near::moves_from;
 use crate::near::near_by;
@@ -25,8 +24,13 @@ use fields::sectors::has_beyond;
 use fields::sectors::sectors;
 use model::Measures;
 
-// The key of an edge of weight 1.
+// An edge of weight w has the key KEY_STEP * w + 1, so that the least key of a path is the least cost, then the fewest edges.
+pub const KEY_STEP: u32 = 4096;
+
 const FACING_KEY: u32 = KEY_STEP + 1;
+
+// Stands for no path: more than any key.
+pub const UNLINKED: u32 = 4294967295;
 
 // A portal's edge to the facing one, or 0.
 fn outer_edge(st: &[u8], m: Measures, p: usize) -> u32

@@ -5,16 +5,14 @@ ghost use Prim.Native.Nat.{ℕ, _+_, _*_, _≤_, _<_};
 ghost use lib.ListN.{length};
 ghost use Rattle.laws.specs.Graph.{Sound, BothWays};
 ghost use Rattle.model.specs.declared.Measures.{Measures};
-ghost use Rattle.model.specs.Portals.{sectorPortals, portalCount};
+ghost use Rattle.model.specs.Sectors.{sectors};
 ghost use Rattle.graph.specs.EdgeTable.{tableGraph};
 ghost use Rattle.graph.specs.Searching.{Searched};
 ghost use Rattle.graph.specs.Ends.{Tried, Begun, Nearest};
-use crate::keys::KEY_STEP;
 use crate::keys::collect;
 use crate::keys::fill_keys;
 use crate::keys::fill_wait;
 use crate::keys::settle;
-use crate::portals::SECTOR_PORTALS;
 use model::Measures;
 
 // The end with number v begins with the moves from there to the goal, if that is less, and then waits.
@@ -25,7 +23,7 @@ fn offer_end(v: usize, last: u8, keys: &mut [u32], wait: &mut [u8])
     if last == 255 {
         return;
     }
-    let w = KEY_STEP * (last as u32 + 1);
+    let w = 4096 * (last as u32 + 1);
     if keys[v] <= w {
         return;
     }
@@ -35,11 +33,11 @@ fn offer_end(v: usize, last: u8, keys: &mut [u32], wait: &mut [u8])
 
 // The goal's turn: its arcs to the ends of the sector whose first number is q.
 fn offer_ends(q: usize, lasts: &[u8], keys: &mut [u32], wait: &mut [u8])
-    requires { ⌜ (q + sectorPortals ≤ length (now keys)) × (length (now keys) ≤ 2000) × (length (now wait) ≡ length (now keys)) × (length (now lasts) ≡ sectorPortals) ⌝ }
-    ensures { λ _. ⌜ ((m : Measures) (table : List ℕ) → Sound (tableGraph m table) → length (now (keys .entry)) ≡ portalCount m → Begun m table q (now (lasts .entry)) 0 (now (keys .entry)) (now (wait .entry)) → Begun m table q (now (lasts .entry)) sectorPortals (now (keys .exit)) (now (wait .exit))) ⌝ }
+    requires { ⌜ (q + 20 ≤ length (now keys)) × (length (now keys) ≤ 2000) × (length (now wait) ≡ length (now keys)) × (length (now lasts) ≡ 20) ⌝ }
+    ensures { λ _. ⌜ ((m : Measures) (table : List ℕ) → Sound (tableGraph m table) → length (now (keys .entry)) ≡ sectors m * 20 → Begun m table q (now (lasts .entry)) 0 (now (keys .entry)) (now (wait .entry)) → Begun m table q (now (lasts .entry)) 20 (now (keys .exit)) (now (wait .exit))) ⌝ }
 {
     let mut k = 0;
-    while k < SECTOR_PORTALS {
+    while k < 20 {
         offer_end(q + k, lasts[k], keys, wait);
         k += 1;
     }
@@ -55,7 +53,7 @@ fn search_ends(
     wait: &mut [u8],
     queue: &mut [u16],
 )
-    requires { ⌜ Searched m (now table) (length (now keys)) (length (now wait)) × (length (now wait) ≡ portalCount m) × (q + sectorPortals ≤ portalCount m) × (length (now lasts) ≡ sectorPortals) × (2000 ≤ length (now queue)) ⌝ }
+    requires { ⌜ Searched m (now table) (length (now keys)) (length (now wait)) × (length (now wait) ≡ sectors m * 20) × (q + 20 ≤ sectors m * 20) × (length (now lasts) ≡ 20) × (2000 ≤ length (now queue)) ⌝ }
     requires { ⌜ BothWays (tableGraph m (now table)) ⌝ }
     ensures { λ _. ⌜ Nearest (tableGraph m (now (table .entry))) q (now (lasts .entry)) (now (keys .exit)) ⌝ }
 {
@@ -68,7 +66,7 @@ fn search_ends(
 
 // The least key from each portal to the goal over one of the ends, whose numbers begin at q: 4,096 for each move from the end to the goal and 4,096 more are counted in. 4294967295 where there is none.
 pub fn keys_to_goal(m: Measures, table: &[u32], q: usize, lasts: &[u8], keys: &mut [u32])
-    requires { ⌜ Searched m (now table) (length (now keys)) 2000 × (q + sectorPortals ≤ portalCount m) × (length (now lasts) ≡ sectorPortals) ⌝ }
+    requires { ⌜ Searched m (now table) (length (now keys)) 2000 × (q + 20 ≤ sectors m * 20) × (length (now lasts) ≡ 20) ⌝ }
     requires { ⌜ BothWays (tableGraph m (now table)) ⌝ }
     ensures { λ _. ⌜ Nearest (tableGraph m (now (table .entry))) q (now (lasts .entry)) (now (keys .exit)) ⌝ }
 {

@@ -7,20 +7,14 @@ ghost use lib.ListN.{length, getD, set, replicate};
 ghost use Rattle.laws.specs.Graph.{BothWays};
 ghost use Rattle.laws.specs.LeastCosts.{relaxed};
 ghost use Rattle.laws.specs.Waiting.{awaited, work};
-ghost use Rattle.model.specs.Portals.{sectorPortals, portalCount, arcCount, portalSector, arcTail};
-ghost use Rattle.model.specs.LeastPath.{unlinked, keysTo};
+ghost use Rattle.model.specs.Sectors.{sectors};
+ghost use Rattle.model.specs.LeastPath.{keysTo};
 ghost use Rattle.graph.specs.EdgeTable.{tableGraph};
 ghost use Rattle.graph.specs.Extending.{Keeps};
 ghost use Rattle.graph.specs.Searching.{Searched, Lined, Turned};
 ghost use Rattle.graph.specs.Turns.{Offerless, Served};
-use crate::portals::SECTOR_PORTALS;
 use crate::portals::head_of;
 use model::Measures;
-
-// An edge of weight w has the key KEY_STEP * w + 1: the least key is the least cost, then the fewest edges. UNLINKED is more than any key, and says that there is no path.
-pub const KEY_STEP: u32 = 4096;
-
-pub const UNLINKED: u32 = 4294967295;
 
 // Number v comes to the end of the queue, if there is room. Says where the queue then ends.
 fn push(queue: &mut [u16], end: usize, v: usize) -> usize
@@ -45,7 +39,7 @@ fn offer(
     queue: &mut [u16],
     end: usize,
 ) -> usize
-    requires { ⌜ Searched m (now table) (length (now keys)) (length (now wait)) × (a < arcCount m) × (u ≡ arcTail a) × (end ≤ length (now queue)) ⌝ }
+    requires { ⌜ Searched m (now table) (length (now keys)) (length (now wait)) × (a < sectors m * 400) × (u ≡ a / 20) × (end ≤ length (now queue)) ⌝ }
     ensures room { λ r. ⌜ r ≤ length (now (queue .entry)) ⌝ }
     ensures taken { λ _. ⌜ (now (keys .exit) ≡ relaxed (tableGraph m (now (table .entry))) (now (keys .entry)) a) × (now (wait .exit) ≡ awaited (tableGraph m (now (table .entry))) (now (keys .entry)) (now (wait .entry)) a) ⌝ }
 {
@@ -53,7 +47,7 @@ fn offer(
     if w == 0 {
         return end;
     }
-    let v = head_of(m, u, a % SECTOR_PORTALS);
+    let v = head_of(m, u, a % 20);
     let old = keys[v];
     if old <= w {
         return end;
@@ -86,15 +80,15 @@ fn gain(key: u32, w: u32, old: u32) -> u32
 
 // Whether an edge of portal u within its sector offers less than the portal there has. All twenty places are looked at: to stop at the first is slower.
 fn offers_inside(table: &[u32], u: usize, keys: &[u32]) -> bool
-    requires { ⌜ (u < 2000) × (portalSector u * sectorPortals + sectorPortals ≤ length (now keys)) × (u * sectorPortals + sectorPortals ≤ length (now table)) ⌝ }
-    ensures { λ r. ⌜ (r ≡ false → Offerless (now (table .entry)) (now (keys .entry)) u sectorPortals) ⌝ }
+    requires { ⌜ (u < 2000) × (u / 20 * 20 + 20 ≤ length (now keys)) × (u * 20 + 20 ≤ length (now table)) ⌝ }
+    ensures { λ r. ⌜ (r ≡ false → Offerless (now (table .entry)) (now (keys .entry)) u 20) ⌝ }
 {
     let key = keys[u];
-    let first = u / SECTOR_PORTALS * SECTOR_PORTALS;
+    let first = u / 20 * 20;
     let mut n = 0u32;
     let mut c = 0;
-    while c < SECTOR_PORTALS {
-        n += gain(key, table[u * SECTOR_PORTALS + c], keys[first + c]);
+    while c < 20 {
+        n += gain(key, table[u * 20 + c], keys[first + c]);
         c += 1;
     }
     0 < n
@@ -110,13 +104,13 @@ fn take_arcs(
     queue: &mut [u16],
     end: usize,
 ) -> usize
-    requires { ⌜ Searched m (now table) (length (now keys)) (length (now wait)) × (end ≤ length (now queue)) × (u < portalCount m) ⌝ }
+    requires { ⌜ Searched m (now table) (length (now keys)) (length (now wait)) × (end ≤ length (now queue)) × (u < sectors m * 20) ⌝ }
     ensures room { λ r. ⌜ r ≤ length (now (queue .entry)) ⌝ }
     ensures taken { λ _. ⌜ Served m (now (table .entry)) u (now (keys .entry)) (now (wait .entry)) (now (keys .exit)) (now (wait .exit)) ⌝ }
 {
     let mut t = end;
-    let mut a = u * SECTOR_PORTALS;
-    let last = a + SECTOR_PORTALS;
+    let mut a = u * 20;
+    let last = a + 20;
     while a < last {
         t = offer(m, table, u, a, keys, wait, queue, t);
         a += 1;
@@ -134,23 +128,14 @@ fn take_turn(
     queue: &mut [u16],
     end: usize,
 ) -> usize
-    requires { ⌜ Searched m (now table) (length (now keys)) (length (now wait)) × (end ≤ length (now queue)) × (u < portalCount m) ⌝ }
+    requires { ⌜ Searched m (now table) (length (now keys)) (length (now wait)) × (end ≤ length (now queue)) × (u < sectors m * 20) ⌝ }
     ensures room { λ r. ⌜ r ≤ length (now (queue .entry)) ⌝ }
     ensures taken { λ _. ⌜ Served m (now (table .entry)) u (now (keys .entry)) (now (wait .entry)) (now (keys .exit)) (now (wait .exit)) ⌝ }
 {
     if offers_inside(table, u, keys) {
         return take_arcs(m, table, u, keys, wait, queue, end);
     }
-    offer(
-        m,
-        table,
-        u,
-        u * SECTOR_PORTALS + u % SECTOR_PORTALS,
-        keys,
-        wait,
-        queue,
-        end,
-    )
+    offer(m, table, u, u * 20 + u % 20, keys, wait, queue, end)
 }
 
 // The turn of number u, if it waits. Says where the queue then ends.
@@ -240,7 +225,7 @@ pub fn settle(
 // Only the end portal waits, with key 0, first in the queue.
 fn begin(e: usize, keys: &mut [u32], wait: &mut [u8], queue: &mut [u16])
     requires { ⌜ (e < 65536) × (e < length (now keys)) × (e < length (now wait)) × (0 < length (now queue)) ⌝ }
-    ensures costs { λ _. ⌜ now (keys .exit) ≡ set (replicate (length (now (keys .entry))) unlinked) e 0 ⌝ }
+    ensures costs { λ _. ⌜ now (keys .exit) ≡ set (replicate (length (now (keys .entry))) 4294967295) e 0 ⌝ }
     ensures waits { λ _. ⌜ now (wait .exit) ≡ set (replicate (length (now (wait .entry))) 0) e 1 ⌝ }
     ensures queues { λ _. ⌜ now (queue .exit) ≡ set (now (queue .entry)) 0 e ⌝ }
 {
@@ -253,11 +238,11 @@ fn begin(e: usize, keys: &mut [u32], wait: &mut [u8], queue: &mut [u16])
 
 // No key is known yet.
 pub fn fill_keys(keys: &mut [u32])
-    ensures { λ _. ⌜ now (keys .exit) ≡ replicate (length (now (keys .entry))) unlinked ⌝ }
+    ensures { λ _. ⌜ now (keys .exit) ≡ replicate (length (now (keys .entry))) 4294967295 ⌝ }
 {
     let mut i = 0;
     while i < keys.len() {
-        keys[i] = UNLINKED;
+        keys[i] = 4294967295;
         i += 1;
     }
 }
@@ -282,7 +267,7 @@ fn search(
     wait: &mut [u8],
     queue: &mut [u16],
 )
-    requires { ⌜ Searched m (now table) (length (now keys)) (length (now wait)) × (e < portalCount m) × (2000 ≤ length (now queue)) ⌝ }
+    requires { ⌜ Searched m (now table) (length (now keys)) (length (now wait)) × (e < sectors m * 20) × (2000 ≤ length (now queue)) ⌝ }
     requires { ⌜ BothWays (tableGraph m (now table)) ⌝ }
     ensures { λ _. ⌜ now (keys .exit) ≡ keysTo (tableGraph m (now (table .entry))) e ⌝ }
 {
@@ -292,7 +277,7 @@ fn search(
 
 // The least key of a path to portal e from each portal, and 4294967295 where there is none.
 pub fn keys_to(m: Measures, table: &[u32], e: usize, keys: &mut [u32])
-    requires { ⌜ Searched m (now table) (length (now keys)) 2000 × (e < portalCount m) ⌝ }
+    requires { ⌜ Searched m (now table) (length (now keys)) 2000 × (e < sectors m * 20) ⌝ }
     requires { ⌜ BothWays (tableGraph m (now table)) ⌝ }
     ensures { λ _. ⌜ now (keys .exit) ≡ keysTo (tableGraph m (now (table .entry))) e ⌝ }
 {
