@@ -1,8 +1,12 @@
 #!/usr/bin/env bash
-# Proves the library and puts it with its header in target/hall: lib/libhall.a and include/hall.h.
+# Proves the library, unless it is newer than its sources, and puts it with its header in target/hall: lib/libhall.a and include/hall.h.
 set -euo pipefail
 cd "$(dirname "${BASH_SOURCE[0]}")/.."
-rt staticlib hall_c | tail -n 1
+library=target/hall/lib/libhall.a
 mkdir -p target/hall/lib target/hall/include
-cp target/staticlib/libhall_c.a target/hall/lib/libhall.a
+if [ ! -e "$library" ] || [ -n "$(find crates crates.txt -newer "$library" -print -quit)" ]; then
+    echo "proving the library hall_c, which takes some minutes where nothing is proved yet" >&2
+    rt staticlib hall_c | tail -n 1
+    cp target/staticlib/libhall_c.a "$library"
+fi
 cp include/hall.h target/hall/include/hall.h

@@ -14,7 +14,7 @@ ABOUT = {
     "moves": "Moves inside a sector, open and blocked cells, routes inside one sector.",
     "winding": "Winding floors: many steps, long runs and long legs.",
     "windows": "Open places, windows, their order and midpoints.",
-    "scaling": "Which cells the trolley's width blocks: order, walks, and where they write.",
+    "scaling": "Which cells scaling closes: order, walks, and where they write.",
     "changes": "Which sectors a change rescales, and in which order.",
     "stale_borders": "Marks after a change, refusal 22, and routes over borders that do not fit.",
     "lent_stores": "Stores whose scaled costs and marks disagree, and bytes behind a store.",
