@@ -3,12 +3,11 @@ use Prim.Native.Nat.{ℕ, _+_, _-_, _*_, _/_, _%_, _≤_, _<_}
 use native.Mathlib.Omega.{arith}
 use mathlib.Core.Path.{_≡_, refl, sym, ap, subst, _∙_}
 use mathlib.Core.Logic.{_⊎_}
-use mathlib.Core.Bool.{Bool, true, false}
+use mathlib.Core.Bool.{Bool, true, false, false≢true}
 use mathlib.Core.List.{List, _++_}
 use lib.Dec.{ltb}
 use lib.ListN.{length, getD, drop, set, length-append, length-drop}
 use borrow.Author.Tests.{eq-eqb, ne-eqb}
-use Rattle.laws.specs.Fold.{false-ne-true}
 use Rattle.laws.specs.Graph.{Graph, Sound, BothWays, Settled, turned}
 use Rattle.laws.specs.FirstPath.{better, closer, next, path}
 use Rattle.laws.specs.Keys.{few-edges}
@@ -47,10 +46,12 @@ module _ {m : Measures} {st table : List ℕ} {keys : ℕ} (k : Linked m st tabl
         few = few .few-sectors;
         few-rows = few .few-rows;
         long = ap length (k .filled) ∙ length-table (decode st) ∙ ap (λ (n : Measures). arcCount n) (measures-are (k .opened));
-        numbers = k .numbers;
-        room = omega (arith, few .few-sectors);
-        sound = subst (λ (g : Graph). Sound g) (ap (λ (n : Measures). tableGraph n (edgeTable (decode st))) (measures-are (k .opened)) ∙ ap (tableGraph m) (sym (k .filled))) (table-sound (fits-of (k .opened)));
-        light = λ e l. omega (arith, low e l);
+        graph = record {
+          numbers = k .numbers;
+          room = omega (arith, few .few-sectors);
+          sound = subst (λ (g : Graph). Sound g) (ap (λ (n : Measures). tableGraph n (edgeTable (decode st))) (measures-are (k .opened)) ∙ ap (tableGraph m) (sym (k .filled))) (table-sound (fits-of (k .opened)));
+          light = λ e l. omega (arith, low e l);
+        };
       }
     where
       low : (e : ℕ) → e < arcCount m → getD table e 0 ≤ key 254
@@ -103,7 +104,7 @@ module _ (m : Measures) (table : List ℕ) (rank : ℕ → ℕ) (keys : List ℕ
     not-exact n = next-skip (tableGraph m table) rank keys u a best (λ p q r. n (omega (arith, q, ap (λ (x : ℕ). getD keys x 0) head-is)))
 
     pub not-better : {b : Bool} → b ≡ better (tableGraph m table) rank v best → b ≡ false → best ≡ closer (tableGraph m table) rank keys u a best
-    not-better e f = next-skip (tableGraph m table) rank keys u a best (λ p q r. false-ne-true (sym f ∙ e ∙ ap (λ (x : ℕ). better (tableGraph m table) rank x best) head-is ∙ r))
+    not-better e f = next-skip (tableGraph m table) rank keys u a best (λ p q r. false≢true (sym f ∙ e ∙ ap (λ (x : ℕ). better (tableGraph m table) rank x best) head-is ∙ r))
 
     pub goes-there : {b : Bool} → 0 < getD table a 0 → getD keys u 0 ≡ getD keys v 0 + getD table a 0 → b ≡ better (tableGraph m table) rank v best → b ≡ true → v ≡ closer (tableGraph m table) rank keys u a best
     goes-there p q e f =
@@ -150,7 +151,7 @@ module _ {m : Measures} {st table keys : List ℕ} (k : Linked m st table (lengt
 
   module _ {p : ℕ} {old new : List ℕ} {u i : ℕ} (w : Walked m st table keys p old new u i) where
     pub walk-at : u < portalCount m
-    walk-at = tracing-node (w .tracing) (searched-of k .sound) (w .inside)
+    walk-at = tracing-node (w .tracing) (searched-of k .graph .sound) (w .inside)
 
     pub walk-room : (i < length new) × (i < portalCount m)
     walk-room = (tracing-room (w .tracing) .0, omega (arith, tracing-room (w .tracing) .1, w .few))

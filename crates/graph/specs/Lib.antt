@@ -1,9 +1,6 @@
 pub mod EdgeTable
 pub mod Reading
 pub mod Weights
-pub mod Extending
 pub mod Searching
-pub mod Turns
-pub mod Ends
 pub mod Following
 pub mod Near

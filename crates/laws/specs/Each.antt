@@ -38,7 +38,7 @@ module _ (g : ℕ → ℕ → ℕ) (xs : List ℕ) where
       go (yes e) rest = rw e (getD-set-same ys n (g n (getD ys n 0)) 0 (rw (length-each n) (omega arith)) ∙ ap (g n) (each-ahead n n (omega arith)))
       go (no e) rest = getD-set-other ys n k (g n (getD ys n 0)) 0 e ∙ rest (omega arith)
 
-  pub run-each : (n : ℕ) → length xs ≡ n → run (each g) n xs ≡ tabulate (λ k. g k (getD xs k 0)) n 0
+  run-each : (n : ℕ) → length xs ≡ n → run (each g) n xs ≡ tabulate (λ k. g k (getD xs k 0)) n 0
   run-each n e =
       let f : ℕ → ℕ = λ k. g k (getD xs k 0) in
       ext-getD 0 (run (each g) n xs) (tabulate f n 0) (length-each n ∙ e ∙ sym (length-tabulate f n 0))

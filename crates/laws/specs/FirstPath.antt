@@ -6,11 +6,11 @@ use native.Mathlib.Omega.{arith}
 use mathlib.Core.Path.{_≡_, refl, sym, ap, _∙_}
 use mathlib.Core.Logic.{_⊎_, inl, inr}
 use mathlib.Core.List.{List, [], _∷_}
-use mathlib.Core.Bool.{Bool, true, false, _&&_, _||_}
+use mathlib.Core.Bool.{Bool, true, false, _&&_, _||_, false≢true}
 use lib.ListN.{getD}
 use lib.Dec.{ltb, eqb}
 use borrow.Author.Tests.{ltb-true, ltb-false, lt-ltb, eqb-true, eqb-false, eq-eqb, ne-eqb}
-use Rattle.laws.specs.Fold.{pick, false-ne-true}
+use Rattle.laws.specs.Fold.{pick}
 use Rattle.laws.specs.Search.{both}
 use Rattle.laws.specs.Graph.{Graph, Sound, Walk, stay, along, Settled, none-less, turned, below-or}
 
@@ -93,8 +93,8 @@ module _ {g : Graph} (rank : ℕ → ℕ) (sound : Sound g) (d : List ℕ) (u : 
       h = g .head n
 
       go : (b : Bool) → tight g d u n ≡ b → Nearest g rank d u n m → Nearest g rank d u (suc n) (pick (b && (eqb m (g .nodes) || ltb (rank h) (rank m))) h m)
-      go false t (none z never) = none z (upto (λ _. ⊥) n never (λ x. false-ne-true (sym t ∙ is-tight g d u n x)))
-      go false t (some e k x q low) = some e k x q (upto (λ f. rank m ≤ rank (g .head f)) n low (λ y. absurd (false-ne-true (sym t ∙ is-tight g d u n y))))
+      go false t (none z never) = none z (upto (λ _. ⊥) n never (λ x. false≢true (sym t ∙ is-tight g d u n x)))
+      go false t (some e k x q low) = some e k x q (upto (λ f. rank m ≤ rank (g .head f)) n low (λ y. absurd (false≢true (sym t ∙ is-tight g d u n y))))
       go true t (none z never) = rw (eq-eqb m (g .nodes) z) (some n l (tight-is g d u n t) refl (upto (λ f. rank h ≤ rank (g .head f)) n (λ f k x. absurd (never f k x)) (λ _. omega arith)))
       go true t (some e k x q low) = rw (ne-eqb m (g .nodes) (λ z. omega (arith, sound .head-in e k (x .real)))) (lower (ltb (rank h) (rank m)) refl)
         where

@@ -22,9 +22,6 @@ unfoldable pub bit : Bool → ℕ
 bit true = 1
 bit false = 0
 
-pub false-ne-true : _≡_ {A = Bool} false true → ⊥
-false-ne-true e = let z : _≡_ {A = ℕ} 0 1 = ap (λ (b : Bool). pick b 1 0) e in omega arith
-
 -- step 0, step 1, .. step n - 1, in this order, on a state
 unfoldable pub run : {S : Type 0} → (ℕ → S → S) → ℕ → S → S
 run f zero s = s
@@ -35,7 +32,7 @@ pub run-none : {S : Type 0} (f : ℕ → S → S) (s : S) → s ≡ run f 0 s
 unfolding run
 run-none f s = refl
 
-pub run-next : {S : Type 0} (f : ℕ → S → S) (i : ℕ) (s t : S) → t ≡ run f i s → f i t ≡ run f (i + 1) s
+run-next : {S : Type 0} (f : ℕ → S → S) (i : ℕ) (s t : S) → t ≡ run f i s → f i t ≡ run f (i + 1) s
 unfolding run
 run-next f i s t e = rw add-one (ap (f i) e)
 
@@ -43,7 +40,7 @@ run-next f i s t e = rw add-one (ap (f i) e)
 pub run-turn : {S : Type 0} (f : ℕ → S → S) (i : ℕ) (s t u : S) → u ≡ f i t → t ≡ run f i s → u ≡ run f (i + 1) s
 run-turn f i s t u e h = e ∙ run-next f i s t h
 
-pub run-end : {S : Type 0} (f : ℕ → S → S) (n i : ℕ) (s t : S) → i ≤ n → n ≤ i → t ≡ run f i s → t ≡ run f n s
+run-end : {S : Type 0} (f : ℕ → S → S) (n i : ℕ) (s t : S) → i ≤ n → n ≤ i → t ≡ run f i s → t ≡ run f n s
 run-end f n i s t l m h = h ∙ ap (λ (k : ℕ). run f k s) (le-antisymm l m)
 
 -- what each step keeps, the whole run keeps
@@ -55,14 +52,8 @@ run-keeps f P keep (suc n) s h = keep n (run f n s) (run-keeps f P keep n s h)
 pub run-length : (f : ℕ → List ℕ → List ℕ) → ((i : ℕ) (s : List ℕ) → length (f i s) ≡ length s) → (n : ℕ) (s : List ℕ) → length (run f n s) ≡ length s
 run-length f keep n s = run-keeps f (λ (t : List ℕ). length t ≡ length s) (λ i t h. keep i t ∙ h) n s refl
 
--- two runs whose steps agree below n are equal
-pub run-same : {S : Type 0} (f g : ℕ → S → S) (n : ℕ) (s : S) → ((i : ℕ) → i < n → (t : S) → f i t ≡ g i t) → run f n s ≡ run g n s
-unfolding run
-run-same f g zero s h = refl
-run-same f g (suc n) s h = ap (f n) (run-same f g n s (λ i l t. h i (omega arith) t)) ∙ h n (omega arith) (run g n s)
-
 -- steps that leave a state as it is
-pub run-fixed : {S : Type 0} (f : ℕ → S → S) (s : S) → ((i : ℕ) → f i s ≡ s) → (n : ℕ) → run f n s ≡ s
+run-fixed : {S : Type 0} (f : ℕ → S → S) (s : S) → ((i : ℕ) → f i s ≡ s) → (n : ℕ) → run f n s ≡ s
 run-fixed f s h n = run-keeps f (λ t. t ≡ s) (λ i t e. ap (f i) e ∙ h i) n s refl
 
 -- steps that do nothing

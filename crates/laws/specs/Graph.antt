@@ -122,18 +122,10 @@ module _ {g : Graph} {s top most : ℕ} {d : List ℕ} (ok : Settled g s top d) 
       let most′ : most * suc (count (under d x) (g .nodes)) ≤ most * g .nodes = mul-le-mul-left most (omega (arith, count-le (under d (suc x)) (g .nodes))) in
       omega (arith, ok .low e l p, weighs e l, ap (λ (y : ℕ). getD d y 0) h)
 
-  -- an entry that is top: no walk
-  pub unreached : {v c : ℕ} → getD d v 0 ≡ top → Walk g s v c → ⊥
-  unreached q w = omega (arith, reached w)
-
 -- ---- walks joined and turned
 pub walk-join : {g : Graph} {s u v a b : ℕ} → Walk g s u a → Walk g u v b → Walk g s v (a + b)
 walk-join {a = a} w stay = rw (add-zero a) w
 walk-join {g} {a = a} w (along {b = b} {c} e l p h x q) = let sum : a + c ≡ a + b + g .weight e = omega arith in along e l p h (walk-join w x) sum
-
--- the least costs obey the triangle rule
-pub least-triangle : {g : Graph} {s u v a b c : ℕ} → Least g s u a → Least g u v b → Least g s v c → c ≤ a + b
-least-triangle {a = a} {b} p q r = r .least (a + b) (walk-join (p .attained) (q .attained))
 
 -- a walk against the arcs is a walk back
 walk-turn : {g : Graph} {s v c : ℕ} → Walk (turned g) s v c → Walk g v s c
@@ -145,7 +137,7 @@ walk-turn {g} {s} {v} {c} (along {b = b} e l p h w q) =
     rw sum (walk-join one (walk-turn w))
 
 module _ {g : Graph} (back : BothWays g) where
-  pub turned-walk : {s v c : ℕ} → Walk g s v c → Walk (turned g) s v c
+  turned-walk : {s v c : ℕ} → Walk g s v c → Walk (turned g) s v c
   turned-walk stay = stay
   turned-walk {s} {v} {c} (along {b = b} e l p h w q) =
       let x = back e l p in

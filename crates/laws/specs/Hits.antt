@@ -1,12 +1,11 @@
 -- A search that passes has a number that passes; and two tests of which each passes where the other does are the same.
 use mathlib.Core.Path.{_≡_, refl, sym, ap, _∙_}
 use mathlib.Core.Logic.{_⊎_, inl, inr}
-use mathlib.Core.Bool.{Bool, true, false}
+use mathlib.Core.Bool.{Bool, true, false, false≢true}
 use Prim.Native.Nat.{ℕ, zero, suc, _<_}
 use native.Mathlib.Nat.{not-suc-le-zero}
 use native.Mathlib.Decide.{ℕ-discrete}
 use native.Mathlib.Omega.{arith}
-use Rattle.laws.specs.Fold.{false-ne-true}
 use Rattle.laws.specs.Search.{any, any-no}
 
 pub record Hit (p : ℕ → Bool) (n : ℕ) : Type 0 where
@@ -33,7 +32,7 @@ any-hit p n e = go (seek p n)
   where
     go : Hit p n ⊎ ((j : ℕ) → j < n → p j ≡ false) → Hit p n
     go (inl h) = h
-    go (inr none) = absurd (false-ne-true (any-no p n n (omega arith) none ∙ e))
+    go (inr none) = absurd (false≢true (any-no p n n (omega arith) none ∙ e))
 
 pub same-test : (a b : Bool) → (a ≡ true → b ≡ true) → (b ≡ true → a ≡ true) → a ≡ b
 same-test true b there back = sym (there refl)

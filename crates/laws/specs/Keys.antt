@@ -11,7 +11,7 @@ use Rattle.laws.specs.Graph.{Graph, Sound, Walk, stay, along, Settled, n
 use Rattle.laws.specs.FirstPath.{First, Trail, ends, goes, Tells, path, path-trail, path-first}
 
 -- a way from s to a node, with its cost and the number of its arcs; arc e costs cost e, which may be 0
-pub data Way (g : Graph) (cost : ℕ → ℕ) (s : ℕ) : ℕ → ℕ → ℕ → Type 0 where
+data Way (g : Graph) (cost : ℕ → ℕ) (s : ℕ) : ℕ → ℕ → ℕ → Type 0 where
   stays : Way g cost s s 0 0
   takes : {v a b m n : ℕ} (e : ℕ) → e < g .arcs → 0 < g .weight e → g .head e ≡ v → Way g cost s (g .tail e) a m → b ≡ a + cost e → n ≡ m + 1 → Way g cost s v b n
 
@@ -37,18 +37,18 @@ pub record Keyed (g : Graph) (cost : ℕ → ℕ) (top : ℕ) : Type 0 where
 
 -- ---- ways
 module _ {g : Graph} {cost : ℕ → ℕ} {top : ℕ} (k : Keyed g cost top) {s : ℕ} where
-  pub way-walk : {v a n : ℕ} → Way g cost s v a n → (c : ℕ) → c ≡ 4096 * a + n → Walk g s v c
+  way-walk : {v a n : ℕ} → Way g cost s v a n → (c : ℕ) → c ≡ 4096 * a + n → Walk g s v c
   way-walk stays c q = let z : c ≡ 0 = omega arith in rw z stay
   way-walk (takes {a = a} {m = m} e l p h w x y) c q = let z : c ≡ 4096 * a + m + g .weight e = omega (arith, k .keyed e l p) in along e l p h (way-walk w (4096 * a + m) refl) z
 
-  pub walk-way : {v c : ℕ} → Walk g s v c → (a : ℕ) × (n : ℕ) × (c ≡ 4096 * a + n) × Way g cost s v a n
+  walk-way : {v c : ℕ} → Walk g s v c → (a : ℕ) × (n : ℕ) × (c ≡ 4096 * a + n) × Way g cost s v a n
   walk-way stay = (0, 0, omega arith, stays)
   walk-way (along e l p h w q) =
       let x = walk-way w in
       (x .0 + cost e, x .1 + 1, omega (arith, x .2, k .keyed e l p), takes e l p h (x .3) refl refl)
 
   module _ {d : List ℕ} (ok : Settled g s top d) where
-    pub way-reached : {v a n : ℕ} → Way g cost s v a n → getD d v 0 < top
+    way-reached : {v a n : ℕ} → Way g cost s v a n → getD d v 0 < top
     way-reached {a = a} {n} w = reached ok (k .sound) (k .weighs) (k .room) (way-walk w (4096 * a + n) refl)
 
     -- a way that makes the least key passes a node of less key at each arc
@@ -67,14 +67,14 @@ module _ {g : Graph} {cost : ℕ → ℕ} {top : ℕ} (k : Keyed g cost top) {s 
         (omega (arith, k .few), omega (arith, k .few), low)
 
     -- the key, taken apart
-    pub key-is : (v : ℕ) → v < g .nodes → getD d v 0 < top → (getD d v 0 % 4096 < g .nodes) × Way g cost s v (getD d v 0 / 4096) (getD d v 0 % 4096)
+    key-is : (v : ℕ) → v < g .nodes → getD d v 0 < top → (getD d v 0 % 4096 < g .nodes) × Way g cost s v (getD d v 0 / 4096) (getD d v 0 % 4096)
     key-is v l t =
         let x = walk-way (ok .rough .made v l t) in
         let y = key-split l (x .3) (sym (x .2)) in
         rw (y .0, y .1) (y .2, x .3)
 
     -- no way costs less
-    pub key-cost : {v a n : ℕ} → Way g cost s v a n → getD d v 0 / 4096 ≤ a
+    key-cost : {v a n : ℕ} → Way g cost s v a n → getD d v 0 / 4096 ≤ a
     key-cost stays = omega (arith, ok .rough .start)
     key-cost (takes e l p h w x y) =
         let u : ℕ = g .tail e in
@@ -82,7 +82,7 @@ module _ {g : Graph} {cost : ℕ → ℕ} {top : ℕ} (k : Keyed g cost top) {s 
         omega (arith, key-cost w, ok .low e l p, k .keyed e l p, ap (λ (z : ℕ). getD d z 0) h)
 
     -- and none of that cost has fewer arcs
-    pub key-arcs : {v a n : ℕ} → Way g cost s v a n → a ≡ getD d v 0 / 4096 → getD d v 0 % 4096 ≤ n
+    key-arcs : {v a n : ℕ} → Way g cost s v a n → a ≡ getD d v 0 / 4096 → getD d v 0 % 4096 ≤ n
     key-arcs {a = a} {n} w q = omega (arith, none-less ok (way-walk w (4096 * a + n) refl))
 
 turned-keyed : {g : Graph} {cost : ℕ → ℕ} {top : ℕ} → Keyed g cost top → Keyed (turned g) cost top
@@ -111,12 +111,9 @@ module _ {g : Graph} {cost : ℕ → ℕ} {top : ℕ} (k : Keyed g cost top) {t 
 
   -- d holds the least keys to t
   module _ {d : List ℕ} (ok : Settled (turned g) t top d) where
-    -- a node from which there is a journey has an entry below top; where the entry is top there is none
+    -- a node from which there is a journey has an entry below top
     pub journey-reached : {u a n : ℕ} {p : List ℕ} → Journey g cost t u p a n → getD d u 0 < top
     journey-reached j = way-reached (turned-keyed k) ok (journey-way j)
-
-    pub no-journey : {u a n : ℕ} {p : List ℕ} → getD d u 0 ≡ top → Journey g cost t u p a n → ⊥
-    no-journey q j = omega (arith, journey-reached j)
 
     module _ (rank : ℕ → ℕ) (u : ℕ) (inside : u < g .nodes) (below : getD d u 0 < top) where
       -- the first path of least key, as a journey
@@ -135,7 +132,8 @@ module _ {g : Graph} {cost : ℕ → ℕ} {top : ℕ} (k : Keyed g cost top) {t 
           × ((q : List ℕ) (b n : ℕ) → Journey g cost t u q b n → Before rank (path g rank d (getD d u 0) u) q (getD d u 0 / 4096) b (getD d u 0 % 4096) n)
       least-journey tells = (path-journey .0, λ q b n j. by-cost q b n j (below-or (getD d u 0 / 4096) b))
         where
-          by-cost : (q : List ℕ) (b n : ℕ) → Journey g cost t u q b n → (getD d u 0 / 4096 < b) ⊎ (b ≤ getD d u 0 / 4096) → Before rank (path g rank d (getD d u 0) u) q (getD d u 0 / 4096) b (getD d u 0 % 4096) n
+          by-cost : (q : List ℕ) (b n : ℕ) → Journey g cost t u q b n → (getD d u 0 / 4096 < b) ⊎ (b ≤ getD d u 0 / 4096)
+              → Before rank (path g rank d (getD d u 0) u) q (getD d u 0 / 4096) b (getD d u 0 % 4096) n
           by-cost q b n j (inl l) = cheaper l
           by-cost q b n j (inr l) = by-edges (below-or (getD d u 0 % 4096) n)
             where

@@ -1,9 +1,8 @@
 -- A ladder of refusals: the first test that holds gives its number, and 0 says that none does.
 use mathlib.Core.Path.{_≡_, refl, sym, _∙_}
-use mathlib.Core.Bool.{Bool, true, false}
+use mathlib.Core.Bool.{Bool, true, false, false≢true}
 use Prim.Native.Nat.{ℕ, suc}
 use native.Mathlib.Omega.{arith}
-use Rattle.laws.specs.Fold.{false-ne-true}
 
 -- the number n where the test holds, else what the rest gives
 unfoldable pub refuse : Bool → ℕ → ℕ → ℕ
@@ -20,11 +19,11 @@ passed false n rest e = (refl, e)
 pub refuse-here : (b : Bool) (n rest : ℕ) → b ≡ true → n ≡ refuse b n rest
 unfolding refuse
 refuse-here true n rest e = refl
-refuse-here false n rest e = absurd (false-ne-true e)
+refuse-here false n rest e = absurd (false≢true e)
 
 pub refuse-past : (b : Bool) (n m rest : ℕ) → b ≡ false → n ≡ rest → n ≡ refuse b m rest
 unfolding refuse
-refuse-past true n m rest e h = absurd (false-ne-true (sym e))
+refuse-past true n m rest e h = absurd (false≢true (sym e))
 refuse-past false n m rest e h = h
 
 pub flag : {r b t : Bool} → r ≡ b → r ≡ t → b ≡ t

@@ -85,7 +85,7 @@ relaxed-cases g d e = go (ltb 0 w) (ltb o h) refl refl
     go false q a b = kept (λ p. absurd (omega (arith, ltb-false 0 w a))) refl
 
 -- f is d, which none of the first n arcs offers less, or its total is less
-abbrev pub Fallen : Graph → List ℕ → ℕ → List ℕ → Type 0
+abbrev Fallen : Graph → List ℕ → ℕ → List ℕ → Type 0
 Fallen g d n f = ((f ≡ d) × ((e : ℕ) → e < n → Low g d e)) ⊎ (total f < total d)
 
 module _ {g : Graph} {s top : ℕ} (sound : Sound g) where
@@ -107,7 +107,7 @@ module _ {g : Graph} {s top : ℕ} (sound : Sound g) where
       }
 
   -- after the first n arcs
-  pub swept-rough : {d : List ℕ} → Rough g s top d → (n : ℕ) → n ≤ g .arcs → Rough g s top (swept g d n) × Fallen g d n (swept g d n)
+  swept-rough : {d : List ℕ} → Rough g s top d → (n : ℕ) → n ≤ g .arcs → Rough g s top (swept g d n) × Fallen g d n (swept g d n)
   unfolding swept
   swept-rough r zero l = (r, inl (refl, λ e h. absurd (omega arith)))
   swept-rough {d} r (suc n) l = go (swept-rough r n (omega arith)) (relaxed-cases g (swept g d n) n)

@@ -1,6 +1,5 @@
 -- Facts that speak of no hall: folds over a count, searches, regions of a list, tables, graphs with their walks and least costs, and walks over a floor against paths through portals.
 pub mod Fold
-pub mod Fill
 pub mod Members
 pub mod Search
 pub mod Hits
@@ -10,11 +9,14 @@ pub mod Region
 pub mod Table
 pub mod Each
 pub mod Graph
-pub mod First
+pub mod FirstLeast
 pub mod Winner
 pub mod LeastCosts
 pub mod Offers
 pub mod Waiting
+pub mod Extending
+pub mod Turns
+pub mod Starts
 pub mod FirstPath
 pub mod Tracing
 pub mod Keys

@@ -1,7 +1,7 @@
 -- Searches and tests over the numbers below a count: the first that passes, whether any does, whether all do, how many do, and the list of those that do.
 use mathlib.Core.Path.{_≡_, refl, sym, ap, _∙_}
 use mathlib.Core.Logic.{_⊎_, inl, inr}
-use mathlib.Core.Bool.{Bool, true, false, _&&_, _||_}
+use mathlib.Core.Bool.{Bool, true, false, _&&_, _||_, false≢true}
 use mathlib.Core.List.{List, [], _∷_, List·Memᴰ·head, List·Memᴰ·tail, List·Memᴰ·cases-cons}
 use Prim.Native.Nat.{ℕ, zero, suc, _+_, _<_, _≤_}
 use native.Mathlib.Nat.{not-suc-le-zero, le-of-suc-le-suc, le-antisymm}
@@ -10,7 +10,7 @@ use native.Mathlib.Omega.{arith}
 use lib.Dec.{ltb}
 use borrow.Author.Count.{below-more}
 use borrow.Author.Tests.{lt-ltb, le-ltb, ltb-false}
-use Rattle.laws.specs.Fold.{pick, pick-keeps, bit, false-ne-true}
+use Rattle.laws.specs.Fold.{pick, pick-keeps, bit}
 use Rattle.laws.specs.Members.{In}
 
 -- how many of 0, 1, .. come before the first that passes; n if none below n does
@@ -44,26 +44,26 @@ implies false b = true
 -- ---- tests joined
 pub both : (a b : Bool) → a && b ≡ true → (a ≡ true) × (b ≡ true)
 both true b e = (refl, e)
-both false b e = absurd (false-ne-true e)
+both false b e = absurd (false≢true e)
 
 pub neither : (a b : Bool) → a || b ≡ false → (a ≡ false) × (b ≡ false)
-neither true b e = absurd (false-ne-true (sym e))
+neither true b e = absurd (false≢true (sym e))
 neither false b e = (refl, e)
 
 pub implied : (a b : Bool) → implies a b ≡ true → a ≡ true → b ≡ true
 unfolding implies
 implied true b e h = e
-implied false b e h = absurd (false-ne-true h)
+implied false b e h = absurd (false≢true h)
 
 -- ---- the first
 -- a search that stops at k, and one that finds none
-pub first-at : (p : ℕ → Bool) (n k : ℕ) → k < n → ((j : ℕ) → j < k → p j ≡ false) → p k ≡ true → first p n ≡ k
+first-at : (p : ℕ → Bool) (n k : ℕ) → k < n → ((j : ℕ) → j < k → p j ≡ false) → p k ≡ true → first p n ≡ k
 unfolding first
 first-at p zero k l before now = absurd (not-suc-le-zero l)
 first-at p (suc n) zero l before now = rw now
 first-at p (suc n) (suc k) l before now = rw (before 0 (omega arith)) (ap suc (first-at (λ j. p (suc j)) n k (le-of-suc-le-suc l) (λ j m. before (suc j) (omega arith)) now))
 
-pub first-none : (p : ℕ → Bool) (n : ℕ) → ((j : ℕ) → j < n → p j ≡ false) → first p n ≡ n
+first-none : (p : ℕ → Bool) (n : ℕ) → ((j : ℕ) → j < n → p j ≡ false) → first p n ≡ n
 unfolding first
 first-none p zero before = refl
 first-none p (suc n) before = rw (before 0 (omega arith)) (ap suc (first-none (λ j. p (suc j)) n (λ j m. before (suc j) (omega arith))))
@@ -81,7 +81,7 @@ first-same p q zero same = refl
 first-same p q (suc n) same = rw (same 0 (omega arith), first-same (λ k. p (suc k)) (λ k. q (suc k)) n (λ k l. same (suc k) (omega arith)))
 
 -- below the first that passes, none does
-pub first-before : (p : ℕ → Bool) (n k : ℕ) → k < first p n → p k ≡ false
+first-before : (p : ℕ → Bool) (n k : ℕ) → k < first p n → p k ≡ false
 unfolding first
 first-before p zero k l = absurd (not-suc-le-zero l)
 first-before p (suc n) k l = go (p 0) refl k l (λ j m. first-before (λ i. p (suc i)) n j m)
@@ -92,7 +92,7 @@ first-before p (suc n) k l = go (p 0) refl k l (λ j m. first-before (λ i. p (s
     go false e (suc k) l rest = rest k (le-of-suc-le-suc l)
 
 -- ---- any
-pub any-yes : (p : ℕ → Bool) (n k : ℕ) → k < n → ((j : ℕ) → j < k → p j ≡ false) → p k ≡ true → true ≡ any p n
+any-yes : (p : ℕ → Bool) (n k : ℕ) → k < n → ((j : ℕ) → j < k → p j ≡ false) → p k ≡ true → true ≡ any p n
 unfolding any
 any-yes p n k l before now = rw (first-at p n k l before now) (sym (lt-ltb k n l))
 
@@ -109,7 +109,7 @@ any-has p n k l now = go (any p n) refl
   where
     go : (b : Bool) → any p n ≡ b → b ≡ true
     go true e = refl
-    go false e = absurd (false-ne-true (sym (any-none p n k e l) ∙ now))
+    go false e = absurd (false≢true (sym (any-none p n k e l) ∙ now))
 
 -- ---- all
 pub all-at : (p : ℕ → Bool) (n k : ℕ) → all p n ≡ true → k < n → p k ≡ true
@@ -120,11 +120,6 @@ all-at p (suc n) k a l = go (both (p n) (all p n) a) (ℕ-discrete k n) (λ b h.
     go : (p n ≡ true) × (all p n ≡ true) → Dec (k ≡ n) → (all p n ≡ true → k < n → p k ≡ true) → p k ≡ true
     go h (yes e) more = rw e (h .0)
     go h (no e) more = more (h .1) (omega arith)
-
-pub all-true : (p : ℕ → Bool) (n : ℕ) → ((k : ℕ) → k < n → p k ≡ true) → all p n ≡ true
-unfolding all
-all-true p zero h = refl
-all-true p (suc n) h = rw (h n (omega arith)) (all-true p n (λ k l. h k (omega arith)))
 
 -- ---- how many
 bit-le : (b : Bool) → bit b ≤ 1
@@ -171,7 +166,8 @@ pub passing-is : (p : ℕ → Bool) (n a : ℕ) {v : ℕ} → In v (passing p n 
 unfolding passing
 passing-is p (suc n) a {v} i = go (p a) refl i (λ j. passing-is p n (suc a) j)
   where
-    go : (t : Bool) → p a ≡ t → In v (pick t (a ∷ passing p n (suc a)) (passing p n (suc a))) → (In v (passing p n (suc a)) → (suc a ≤ v) × (v < suc a + n) × (p v ≡ true)) → (a ≤ v) × (v < a + suc n) × (p v ≡ true)
+    go : (t : Bool) → p a ≡ t → In v (pick t (a ∷ passing p n (suc a)) (passing p n (suc a)))
+        → (In v (passing p n (suc a)) → (suc a ≤ v) × (v < suc a + n) × (p v ≡ true)) → (a ≤ v) × (v < a + suc n) × (p v ≡ true)
     go true e j more = one (List·Memᴰ·cases-cons j)
       where
         one : (v ≡ a) ⊎ In v (passing p n (suc a)) → (a ≤ v) × (v < a + suc n) × (p v ≡ true)
@@ -186,7 +182,7 @@ passing-has p (suc n) a v l k o = go (ℕ-discrete v a) (p a) refl (λ m. passin
   where
     go : Dec (v ≡ a) → (t : Bool) → p a ≡ t → (suc a ≤ v → In v (passing p n (suc a))) → In v (pick t (a ∷ passing p n (suc a)) (passing p n (suc a)))
     go (yes e) true q more = List·Memᴰ·head e
-    go (yes e) false q more = absurd (false-ne-true (sym q ∙ ap p (sym e) ∙ o))
+    go (yes e) false q more = absurd (false≢true (sym q ∙ ap p (sym e) ∙ o))
     go (no e) true q more = List·Memᴰ·tail (more (omega arith))
     go (no e) false q more = more (omega arith)
 

@@ -1,5 +1,5 @@
 -- The lists that a rule gives for the numbers from a on, one after another, and pairs of passing numbers as such a row.
-use Prim.Native.Nat.{ℕ, zero, suc, _+_, _-_, _*_, _/_, _%_, _≤_, _<_}
+use Prim.Native.Nat.{ℕ, zero, suc, _+_, _*_, _/_, _%_, _<_}
 use native.Mathlib.Nat.{add-zero, zero-add, add-suc, suc-add}
 use native.Mathlib.Omega.{arith}
 use mathlib.Core.Path.{_≡_, refl, sym, ap, _∙_}
@@ -15,7 +15,7 @@ spans g zero a = []
 spans g (suc n) a = g a ++ spans g n (suc a)
 
 -- two rules that give the same lists, each from its own number on
-pub spans-same : {A : Type 0} (f g : ℕ → List A) (n a b : ℕ) → ((k : ℕ) → k < n → f (a + k) ≡ g (b + k)) → spans f n a ≡ spans g n b
+spans-same : {A : Type 0} (f g : ℕ → List A) (n a b : ℕ) → ((k : ℕ) → k < n → f (a + k) ≡ g (b + k)) → spans f n a ≡ spans g n b
 unfolding spans
 spans-same f g zero a b same = refl
 spans-same {A} f g (suc n) a b same =
@@ -27,15 +27,17 @@ pub spans-join : {A : Type 0} (g : ℕ → List A) (n m a : ℕ) → spans g (n 
 unfolding spans
 spans-join g zero m a = rw (zero-add m, add-zero a)
 spans-join {A} g (suc n) m a =
-    rw (suc-add n m) (ap (λ (t : List A). g a ++ t) (spans-join g n m (suc a)) ∙ sym (append-assoc (g a) (spans g n (suc a)) (spans g m (suc a + n))) ∙ ap (λ (k : ℕ). (g a ++ spans g n (suc a)) ++ spans g m k) (suc-add a n ∙ sym (add-suc a n)))
+    rw (suc-add n m)
+    (ap (λ (t : List A). g a ++ t) (spans-join g n m (suc a)) ∙ sym (append-assoc (g a) (spans g n (suc a)) (spans g m (suc a + n)))
+    ∙ ap (λ (k : ℕ). (g a ++ spans g n (suc a)) ++ spans g m k) (suc-add a n ∙ sym (add-suc a n)))
 
-pub spans-empty : {A : Type 0} (g : ℕ → List A) (n a : ℕ) → ((k : ℕ) → g k ≡ []) → spans g n a ≡ []
+spans-empty : {A : Type 0} (g : ℕ → List A) (n a : ℕ) → ((k : ℕ) → g k ≡ []) → spans g n a ≡ []
 unfolding spans
 spans-empty g zero a none = refl
 spans-empty g (suc n) a none = rw (none a) (spans-empty g n (suc a) none)
 
 -- ---- passing numbers
-pub passing-lists : {A : Type 0} (f : ℕ → List A) (p : ℕ → Bool) (n a : ℕ) → flatMap f (passing p n a) ≡ spans (λ v. pick (p v) (f v) []) n a
+passing-lists : {A : Type 0} (f : ℕ → List A) (p : ℕ → Bool) (n a : ℕ) → flatMap f (passing p n a) ≡ spans (λ v. pick (p v) (f v) []) n a
 unfolding flatMap passing spans
 passing-lists f p zero a = refl
 passing-lists {A} f p (suc n) a = go (p a) ∙ ap (λ (t : List A). pick (p a) (f a) [] ++ t) (passing-lists f p n (suc a))
@@ -81,8 +83,12 @@ module _ {A B : Type 0} (f : ℕ → B → List A) (g : ℕ → B) (p q : ℕ �
       let turn : suc n * 20 ≡ n * 20 + 20 = omega arith in
       let first : ℕ → List A = λ v. pick (p v) (inner b v) [] in
       ap (λ (k : ℕ). spans first k a) one ∙ spans-join first n 1 a ∙ ap (λ (t : List A). spans first n a ++ t) (append-nil (first (a + n)))
-      ∙ rw (rows n a b, ← row-is n a b) (sym (ap (λ (k : ℕ). spans (cell f g p q a b) k 0) turn ∙ spans-join (cell f g p q a b) (n * 20) 20 0 ∙ ap (λ (k : ℕ). spans (cell f g p q a b) (n * 20) 0 ++ spans (cell f g p q a b) 20 k) (zero-add (n * 20))))
+      ∙ rw (rows n a b, ← row-is n a b)
+      (sym (ap (λ (k : ℕ). spans (cell f g p q a b) k 0) turn ∙ spans-join (cell f g p q a b) (n * 20) 20 0
+      ∙ ap (λ (k : ℕ). spans (cell f g p q a b) (n * 20) 0 ++ spans (cell f g p q a b) 20 k) (zero-add (n * 20))))
 
   pub pairs-in-row : (a b : ℕ) → pairs f (passing p 20 a) (map g (passing q 20 b)) ≡ spans (cell f g p q a b) 400 0
   unfolding pairs
-  pairs-in-row a b = lists-same (λ x. flatMap (f x) (map g (passing q 20 b))) (inner b) (passing p 20 a) (λ x. lists-map (f x) g (passing q 20 b) ∙ passing-lists (λ w. f x (g w)) q 20 b) ∙ passing-lists (inner b) p 20 a ∙ rows 20 a b
+  pairs-in-row a b =
+      lists-same (λ x. flatMap (f x) (map g (passing q 20 b))) (inner b) (passing p 20 a) (λ x. lists-map (f x) g (passing q 20 b) ∙ passing-lists (λ w. f x (g w)) q 20 b)
+      ∙ passing-lists (inner b) p 20 a ∙ rows 20 a b

@@ -6,7 +6,7 @@ use native.Mathlib.Nat.{add-zero, zero-add, add-suc, suc-add, le-of-suc-le-suc, 
 use native.Mathlib.Numerals.{add-one}
 use native.Mathlib.Decide.{ℕ-discrete}
 use native.Mathlib.Omega.{arith}
-use lib.ListN.{getD, length, set, length-set}
+use lib.ListN.{getD, length, set, replicate, length-set}
 use lib.Seq.{ext-getD, getD-set-same, getD-set-other}
 
 -- n entries, from f i on
@@ -78,6 +78,15 @@ tabled-at {f} {n} {t = t} r e = subst (λ (i : ℕ). Tabled f n i t) e r
 
 pub tabled-all : {f : ℕ → ℕ} {n i : ℕ} {t : List ℕ} → Tabled f n i t → n ≤ i → t ≡ tabulate f n 0
 tabled-all {f} {n} {i} {t} r l = ext-getD 0 t (tabulate f n 0) (r .long ∙ sym (length-tabulate f n 0)) (λ k m. r .at k (omega (arith, r .long)) ∙ sym (tabulate-at f n k 0 (omega (arith, r .long))))
+
+-- one value everywhere
+pub tabled-fill : (v : ℕ) {n i : ℕ} {t : List ℕ} → Tabled (λ _. v) n i t → n ≤ i → t ≡ replicate n v
+unfolding tabulate
+tabled-fill v {n} r l = tabled-all r l ∙ same n 0
+  where
+    same : (n i : ℕ) → tabulate (λ _. v) n i ≡ replicate n v
+    same zero i = refl
+    same (suc n) i = ap (λ (t : List ℕ). v ∷ t) (same n (suc i))
 
 -- for `search (needs, tabling)`
 pub ruleset tabling = (tabled-none, tabled-more, tabled-all)

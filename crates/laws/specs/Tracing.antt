@@ -96,7 +96,8 @@ trail-next {g} (goes {b = b} {p = p} e l k h w x) z q f =
     (g .head e, b, y .0, sym same ∙ y .1, rw (← same) w)
 
 module _ {g : Graph} {rank : ℕ → ℕ} {t from : ℕ} {d old : List ℕ} where
-  pub tracing-none : {top : ℕ} → Settled (turned g) t top d → Sound g → from < g .nodes → getD d from 0 < top → length (path g rank d (getD d from 0) from) ≤ length old → Tracing g rank t from d old old from 0
+  pub tracing-none : {top : ℕ} → Settled (turned g) t top d → Sound g → from < g .nodes → getD d from 0 < top
+      → length (path g rank d (getD d from 0) from) ≤ length old → Tracing g rank t from d old old from 0
   tracing-none ok sound l k h =
       let q : getD d from 0 - 0 ≡ getD d from 0 = omega arith in
       record { passed = []; many = refl; is = rw q refl; written = refl; cost = getD d from 0; rest = rw q (path-trail rank ok sound (getD d from 0) from l k (omega arith)); room = h }

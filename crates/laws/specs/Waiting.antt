@@ -88,21 +88,21 @@ module _ {g : Graph} {s top : ℕ} (sound : Sound g) where
           inr (omega (arith, rough .capped (g .head e) (sound .head-in e k p), getD-set-other (replicate (g .nodes) top) s (g .tail e) 0 0 q, getD-replicate (g .nodes) (g .tail e) top 0 (sound .tail-in e k p)))
 
   -- u waits no longer, and its arcs are to be taken
-  pub serving-none : {d p : List ℕ} → Waiting g s top d p → (u m : ℕ) → ((e : ℕ) → e < g .arcs → g .tail e ≡ u → m ≤ e) → Serving g s top d (set p u 0) u m
-  serving-none {d} {p} w u m first = record { rough = w .rough; long = omega (arith, length-set p u 0, w .long); held = λ e l q. go e l (ℕ-discrete (g .tail e) u) (w .held e l q) }
+  pub serving-none : {d p : List ℕ} → Waiting g s top d p → (u m : ℕ) → ((e : ℕ) → e < g .arcs → 0 < g .weight e → g .tail e ≡ u → m ≤ e) → Serving g s top d (set p u 0) u m
+  serving-none {d} {p} w u m first = record { rough = w .rough; long = omega (arith, length-set p u 0, w .long); held = λ e l q. go e l q (ℕ-discrete (g .tail e) u) (w .held e l q) }
     where
-      go : (e : ℕ) → e < g .arcs → Dec (g .tail e ≡ u) → Held g d p e → Held g d (set p u 0) e ⊎ ((g .tail e ≡ u) × (m ≤ e))
-      go e l (yes q) h = inr (q, first e l q)
-      go e l (no q) (inl h) = inl (inl (rw (getD-set-other p u (g .tail e) 0 0 q) h))
-      go e l (no q) (inr h) = inl (inr h)
+      go : (e : ℕ) → e < g .arcs → 0 < g .weight e → Dec (g .tail e ≡ u) → Held g d p e → Held g d (set p u 0) e ⊎ ((g .tail e ≡ u) × (m ≤ e))
+      go e l i (yes q) h = inr (q, first e l i q)
+      go e l i (no q) (inl h) = inl (inl (rw (getD-set-other p u (g .tail e) 0 0 q) h))
+      go e l i (no q) (inr h) = inl (inr h)
 
   -- all of u's arcs are taken
-  pub serving-all : {d p : List ℕ} {u m : ℕ} → Serving g s top d p u m → ((e : ℕ) → e < g .arcs → g .tail e ≡ u → e < m) → Waiting g s top d p
-  serving-all {d} {p} {u} {m} w last = record { rough = w .rough; long = w .long; held = λ e l q. go e l (w .held e l q) }
+  pub serving-all : {d p : List ℕ} {u m : ℕ} → Serving g s top d p u m → ((e : ℕ) → e < g .arcs → 0 < g .weight e → g .tail e ≡ u → e < m) → Waiting g s top d p
+  serving-all {d} {p} {u} {m} w last = record { rough = w .rough; long = w .long; held = λ e l q. go e l q (w .held e l q) }
     where
-      go : (e : ℕ) → e < g .arcs → Held g d p e ⊎ ((g .tail e ≡ u) × (m ≤ e)) → Held g d p e
-      go e l (inl h) = h
-      go e l (inr h) = absurd (omega (arith, last e l (h .0)))
+      go : (e : ℕ) → e < g .arcs → 0 < g .weight e → Held g d p e ⊎ ((g .tail e ≡ u) × (m ≤ e)) → Held g d p e
+      go e l q (inl h) = h
+      go e l q (inr h) = absurd (omega (arith, last e l q (h .0)))
 
   -- nobody waits: the certificate
   pub waiting-over : {d p : List ℕ} → Waiting g s top d p → ((v : ℕ) → v < g .nodes → getD p v 0 ≡ 0) → Settled g s top d

@@ -14,7 +14,7 @@ use borrow.Author.Count.{below-more}
 use borrow.Author.Tests.{ltb-true, ltb-false}
 use Rattle.laws.specs.Fold.{pick}
 use Rattle.laws.specs.Members.{In, place-in, in-place, place-map, place-before, place-last}
-use Rattle.laws.specs.First.{First, first-take, first-skip, first-unique, first-same, Foremost, none-foremost, foremost-is}
+use Rattle.laws.specs.FirstLeast.{FirstLeast, first-take, first-skip, first-unique, first-same, Foremost, none-foremost, foremost-is}
 use Rattle.laws.specs.Spans.{spans, spans-join}
 
 -- a later one wins only if its key is less
@@ -35,7 +35,7 @@ module _ {A : Type 0} (w : A → ℕ) where
   pub record Leads (z : A) (xs : List A) : Type 0 where
     pub place : ℕ
     pub there : getElem? xs place ≡ some z
-    pub first : First (keyAt xs) (length xs) place
+    pub first : FirstLeast (keyAt xs) (length xs) place
 
   -- the winner leads, or there is none
   data Won (xs : List A) : Option A → Type 0 where
@@ -125,7 +125,7 @@ module _ {A : Type 0} (w : A → ℕ) where
     -- the winner after n places
     data Ahead (n : ℕ) : Option A → Type 0 where
       no-one : ((j : ℕ) → j < n → top ≤ key j) → Ahead n none
-      ahead : {r : ℕ} {z : A} → First key n r → key r < top → g r ≡ z ∷ [] → key r ≡ w z → Ahead n (some z)
+      ahead : {r : ℕ} {z : A} → FirstLeast key n r → key r < top → g r ≡ z ∷ [] → key r ≡ w z → Ahead n (some z)
 
     ahead-more : (n : ℕ) {b : Option A} → Holds top (key n) (g n) → Ahead n b → Ahead (n + 1) (winner w b (g n))
     unfolding winner beat

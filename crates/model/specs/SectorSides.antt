@@ -5,9 +5,8 @@ use native.Mathlib.Decide.{ℕ-discrete}
 use native.Mathlib.Omega.{arith}
 use mathlib.Core.Path.{_≡_, refl, sym, ap, ap₂, _∙_}
 use mathlib.Core.Logic.{_↔_, _⊎_, inl, inr, _≢_}
-use mathlib.Core.Bool.{Bool, true, false}
+use mathlib.Core.Bool.{Bool, true, false, false≢true}
 use borrow.Author.Tests.{ltb-true, lt-ltb, leb-true, le-leb}
-use Rattle.laws.specs.Fold.{false-ne-true}
 use Rattle.model.specs.declared.Measures.{Measures}
 use Rattle.model.specs.declared.Side.{Side}
 use Rattle.model.specs.declared.Side.the-variants.{North, East, South, West}
@@ -107,7 +106,7 @@ module _ (m : Measures) (s : ℕ) (on : s < sectors m) where
   )
     where
       there : hasBeyond m s k ≡ false → Room (sense k) (wide m (axis k)) (sectorOn m s (axis k)) ⊎ (sectorOn m s (axis k) ≡ last (sense k) (wide m (axis k))) → sectorOn m s (axis k) ≡ last (sense k) (wide m (axis k))
-      there e (inl r) = absurd (false-ne-true (sym e ∙ has-room k .1 r))
+      there e (inl r) = absurd (false≢true (sym e ∙ has-room k .1 r))
       there e (inr q) = q
 
       back : (t : Bool) → hasBeyond m s k ≡ t → sectorOn m s (axis k) ≡ last (sense k) (wide m (axis k)) → t ≡ false

@@ -3,10 +3,9 @@ use Prim.Native.Nat.{ℕ, _+_, _*_, _/_, _%_, _≤_, _<_}
 use native.Mathlib.Omega.{arith}
 use mathlib.Core.Path.{_≡_, refl, sym, ap, _∙_}
 use mathlib.Core.Logic.{_⊎_, inl, inr}
-use mathlib.Core.Bool.{true, false}
+use mathlib.Core.Bool.{true, false, false≢true}
 use mathlib.Core.List.{List}
 use lib.ListN.{length, getD}
-use Rattle.laws.specs.Fold.{false-ne-true}
 use Rattle.laws.specs.Graph.{Walk, stay, along, Settled, none-less, reached, below-or}
 use Rattle.laws.specs.LeastCosts.{least-costs, least-costs-settled}
 use Rattle.model.specs.declared.Side.{Side}
@@ -40,7 +39,7 @@ module _ (costs : List ℕ) (from : ℕ) (low : from < 100) where
   -- no move leads out of a blocked cell
   blocked-walk : openAt costs from ≡ false → {v c : ℕ} → Walk (moveGraph costs) from v c → v ≡ from
   blocked-walk b stay = refl
-  blocked-walk b (along e l p h w q) = absurd (false-ne-true (sym b ∙ ap (openAt costs) (sym (blocked-walk b w)) ∙ arc e p .leaves))
+  blocked-walk b (along e l p h w q) = absurd (false≢true (sym b ∙ ap (openAt costs) (sym (blocked-walk b w)) ∙ arc e p .leaves))
 
   -- moves from an open cell lead to open cells
   open-walk : openAt costs from ≡ true → {v c : ℕ} → Walk (moveGraph costs) from v c → openAt costs v ≡ true

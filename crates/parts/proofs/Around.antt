@@ -1,7 +1,7 @@
 -- Facts for the proofs that go over the sectors around a changed one: their sides marked one after the other are the table of marks afresh, and a side that exceeds is one of theirs.
 use mathlib.Core.Path.{_≡_, refl, sym, ap, _∙_}
 use mathlib.Core.Logic.{_⊎_, inl, inr}
-use mathlib.Core.Bool.{Bool, true, false, _&&_}
+use mathlib.Core.Bool.{Bool, true, false, _&&_, false≢true}
 use mathlib.Core.List.{List}
 use Prim.Native.Nat.{ℕ, zero, suc, _+_, _*_, _/_, _%_, _<_}
 use native.Mathlib.Nat.{not-suc-le-zero}
@@ -11,7 +11,7 @@ use lib.Dec.{eqb}
 use lib.ListN.{length, getD, length-set}
 use lib.Seq.{getD-set-same, getD-set-other, ext-getD}
 use borrow.Author.Tests.{eqb-true, eqb-false, eq-eqb, ne-eqb}
-use Rattle.laws.specs.Fold.{pick, pick-keeps, false-ne-true, run, run-length}
+use Rattle.laws.specs.Fold.{pick, pick-keeps, run, run-length}
 use Rattle.laws.specs.Search.{any, any-no, any-has, both}
 use Rattle.laws.specs.Table.{tabulate, length-tabulate, tabulate-at}
 use Rattle.laws.specs.Each.{each}
@@ -44,7 +44,7 @@ module _ (step : ℕ → List ℕ → List ℕ) (p : ℕ → Bool) (k v : ℕ) (
     where
       go : (b : Bool) → p n ≡ b → Dec (j ≡ n) → (j < n → getD (run step n xs) k 0 ≡ v) → getD (step n (run step n xs)) k 0 ≡ v
       go true q d rest = sets n (run step n xs) (on-run n) q
-      go false q (yes z) rest = absurd (false-ne-true (sym q ∙ ap p (sym z) ∙ e))
+      go false q (yes z) rest = absurd (false≢true (sym q ∙ ap p (sym z) ∙ e))
       go false q (no z) rest = leaves n (run step n xs) (on-run n) q ∙ rest (omega arith)
 
   run-entry : (n : ℕ) → getD (run step n xs) k 0 ≡ pick (any p n) v (getD xs k 0)

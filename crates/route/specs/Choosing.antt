@@ -10,7 +10,7 @@ use lib.ListN.{getD}
 use borrow.Author.Tests.{ltb-true, lt-ltb, le-ltb}
 use Rattle.laws.specs.Fold.{pick}
 use Rattle.laws.specs.Graph.{Graph}
-use Rattle.laws.specs.First.{Foremost, foremost-is}
+use Rattle.laws.specs.FirstLeast.{Foremost, foremost-is}
 use Rattle.laws.specs.Winner.{winner, Holds, empty, holds, row-none, row-some}
 use Rattle.laws.specs.Spans.{spans, cell, pairs-in-row}
 use Rattle.model.specs.Sectors.{sectorOf}

@@ -96,10 +96,10 @@ module _ (h : Hall) where
 
   -- the portals that were written down
   module _ (fits : Fits h) {p e n : ℕ} (z : Paired p e) (keys nodes old : List ℕ) (is : keys ≡ keysTo (portalGraph h) e) (many : n ≡ length (leastPath h (portalGraph h) keys p)) (wrote : nodes ≡ leastPath h (portalGraph h) keys p ++ drop n old) where
-    pub taken : take n nodes ≡ pairPath p e
+    taken : take n nodes ≡ pairPath p e
     taken = rw wrote (take-at (leastPath h (portalGraph h) keys p) (drop n old) n (sym many)) ∙ ap (λ (k : List ℕ). leastPath h (portalGraph h) k p) is
 
-    pub taken-long : length (pairPath p e) ≡ n
+    taken-long : length (pairPath p e) ≡ n
     taken-long = sym (many ∙ ap (λ (k : List ℕ). length (leastPath h (portalGraph h) k p)) is)
 
     pub taken-few : length nodes ≡ length old → n ≤ length nodes
@@ -108,7 +108,7 @@ module _ (h : Hall) where
     pub taken-path : PortalPath h (take n nodes)
     taken-path = rw taken (least-portal-path h fits e (unfold portalGraph in z .end) refl p (z .start) (z .linked))
 
-    pub taken-steps : (goal : ℕ) → length (stepsOf h goal true (pairPath p e)) ≡ n / 2 + 1
+    taken-steps : (goal : ℕ) → length (stepsOf h goal true (pairPath p e)) ≡ n / 2 + 1
     taken-steps goal = length-steps h goal (pairPath p e) (rw taken at (taken-path .some)) ∙ ap (λ (k : ℕ). k / 2 + 1) taken-long
 
     -- the answer and the list, with and without room

@@ -7,15 +7,12 @@ use mathlib.Core.Logic.{_⊎_, inl, inr}
 use mathlib.Core.List.{List}
 use lib.ListN.{getD}
 use borrow.Author.Tests.{lt-ltb}
-use Rattle.laws.specs.Graph.{Sound, BothWays, below-or}
-use Rattle.laws.specs.First.{First, Foremost, foremost-none, foremost-some, none-foremost, foremost-is}
-use Rattle.model.specs.declared.Measures.{Measures}
-use Rattle.model.specs.Sectors.{sectors}
+use Rattle.laws.specs.Graph.{Graph, Sound, BothWays, below-or}
+use Rattle.laws.specs.FirstLeast.{FirstLeast, Foremost, foremost-none, foremost-some, none-foremost, foremost-is}
 use Rattle.model.specs.Moves.{apart}
 use Rattle.model.specs.LeastPath.{unlinked, keysTo}
-use Rattle.graph.specs.EdgeTable.{tableGraph}
-use Rattle.graph.specs.Searching.{keys-back}
-use Rattle.graph.specs.Ends.{Nearest}
+use Rattle.search.specs.Keys.{keys-back}
+use Rattle.search.specs.Ends.{Nearest}
 use Rattle.route.specs.Choosing.{runFor, some-run, joins, pairRun}
 
 -- the runs of twenty places: keys from number p on, legs and last moves by place
@@ -28,18 +25,19 @@ unfolding runFor
 same-leg key leg other last l k = rw (lt-ltb leg apart l, lt-ltb other apart k)
 
 -- ---- the two choices
-module _ (m : Measures) (table : List ℕ) (sound : Sound (tableGraph m table)) (back : BothWays (tableGraph m table)) (p q : ℕ) (in-p : p + 20 ≤ sectors m * 20) (in-q : q + 20 ≤ sectors m * 20) (legs lasts zeros : List ℕ) (zero-at : (c : ℕ) → c < 20 → getD zeros c 0 ≡ 0) where
+module _ {g : Graph} (sound : Sound g) (back : BothWays g) (p q : ℕ) (in-p : p + 20 ≤ g .nodes) (in-q : q + 20 ≤ g .nodes)
+    (legs lasts zeros : List ℕ) (zero-at : (c : ℕ) → c < 20 → getD zeros c 0 ≡ 0) where
   -- the key and the run from the start at place c to the end at place d
   abbrev keyFor : ℕ → ℕ → ℕ
-  keyFor c d = getD (keysTo (tableGraph m table) (q + d)) (p + c) 0
+  keyFor c d = getD (keysTo g (q + d)) (p + c) 0
 
   abbrev runTo : ℕ → ℕ → ℕ
   runTo c d = runFor (keyFor c d) (getD legs c 0) (getD lasts d 0)
 
   abbrev runs : ℕ → ℕ
-  runs = pairRun (tableGraph m table) legs lasts p q
+  runs = pairRun g legs lasts p q
 
-  module _ (keys : List ℕ) (nearest : Nearest (tableGraph m table) q lasts keys) where
+  module _ (keys : List ℕ) (nearest : Nearest g q lasts keys) where
     abbrev startCost : ℕ → ℕ
     startCost c = placeRun keys p legs zeros c
 
@@ -72,14 +70,14 @@ module _ (m : Measures) (table : List ℕ) (sound : Sound (tableGraph m table)) 
       starts-low : startCost c < unlinked
       starts-low = foremost-is start some .0
 
-      starts-first : First startCost 20 c
+      starts-first : FirstLeast startCost 20 c
       starts-first = foremost-is start some .1
 
-      module _ (tos : List ℕ) (to-start : tos ≡ keysTo (tableGraph m table) (p + c)) where
+      module _ (tos : List ℕ) (to-start : tos ≡ keysTo g (p + c)) where
         -- the runs from it
         ends-are : (d : ℕ) → d < 20 → placeRun tos q zeros lasts d ≡ runTo c d
         ends-are d l =
-            let key : getD tos (q + d) 0 ≡ keyFor c d = ap (λ (k : List ℕ). getD k (q + d) 0) to-start ∙ keys-back m table sound back (omega arith) (omega arith) in
+            let key : getD tos (q + d) 0 ≡ keyFor c d = ap (λ (k : List ℕ). getD k (q + d) 0) to-start ∙ keys-back sound back (omega arith) (omega arith) in
             rw key (same-leg (keyFor c d) (getD zeros d 0) (getD legs c 0) (getD lasts d 0) (omega (arith, zero-at d l)) (start-some c some starts-low .0))
 
         -- THE PAIR
@@ -94,7 +92,7 @@ module _ (m : Measures) (table : List ℕ) (sound : Sound (tableGraph m table)) 
               least = λ j l. omega (arith, chosen, most j l (below-or (runs j) unlinked));
             })
               where
-                ends-first : First (placeRun tos q zeros lasts) 20 d
+                ends-first : FirstLeast (placeRun tos q zeros lasts) 20 d
                 ends-first = foremost-is end k .1
 
                 chosen : runs (c * 20 + d) ≡ runTo c d

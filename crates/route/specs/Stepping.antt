@@ -40,7 +40,7 @@ shifted f g (suc n) i j e =
 
 module _ (h : Hall) (goal : ℕ) where
   -- a path of a portal or more has the steps at its even positions before the last, and the last
-  pub steps-by-place : (path : List ℕ) → 1 ≤ length path → stepsOf h goal true path ≡ evenSteps h path (length path / 2) ++ (endStep h goal (getD path (length path - 1) 0) ∷ [])
+  steps-by-place : (path : List ℕ) → 1 ≤ length path → stepsOf h goal true path ≡ evenSteps h path (length path / 2) ++ (endStep h goal (getD path (length path - 1) 0) ∷ [])
   unfolding stepsOf tabulate
   steps-by-place [] l = absurd (omega arith)
   steps-by-place (p ∷ []) l = refl

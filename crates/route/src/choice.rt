@@ -3,7 +3,7 @@ ghost use mathlib.Core.Path.{_≡_};
 ghost use Prim.Native.Nat.{_+_, _*_, _≤_};
 ghost use lib.ListN.{length};
 ghost use Rattle.laws.specs.Graph.{BothWays};
-ghost use Rattle.laws.specs.First.{Foremost};
+ghost use Rattle.laws.specs.FirstLeast.{Foremost};
 ghost use Rattle.model.specs.Portals.{sectorPortals, portalCount};
 ghost use Rattle.model.specs.LeastPath.{unlinked};
 ghost use Rattle.graph.specs.EdgeTable.{tableGraph};
@@ -12,10 +12,10 @@ ghost use Rattle.route.specs.Choosing.{runFor, pairRun};
 ghost use Rattle.route.specs.FirstPair.{placeRun};
 use graph::edges::KEY_STEP;
 use graph::edges::UNLINKED;
-use graph::ends::keys_to_goal;
-use graph::keys::keys_to;
 use graph::portals::SECTOR_PORTALS;
 use model::Measures;
+use search::ends::keys_to_goal;
+use search::keys::keys_to;
 
 // How many pairs there are of a place in the sector of the source and one in that of the goal.
 pub const PAIRS: usize = SECTOR_PORTALS * SECTOR_PORTALS;

@@ -18,7 +18,6 @@ use fields::sectors::SECTOR_CELLS;
 use fields::sectors::sectors;
 use graph::edges::KEY_STEP;
 use graph::edges::fill_edges;
-use graph::keys::keys_to;
 use graph::near::moves_to;
 use graph::near::portal_moves;
 use graph::path::least_path;
@@ -26,6 +25,7 @@ use graph::portals::SECTOR_ARCS;
 use graph::portals::SECTOR_PORTALS;
 use model::Measures;
 use model::Routed;
+use search::keys::keys_to;
 
 // The route of one step, to a goal at these moves in the same sector.
 fn one_step(m: Measures, goal: usize, moves: u8, list: &mut [u8]) -> Routed

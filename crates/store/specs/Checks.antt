@@ -1,13 +1,13 @@
 -- What the checks of a store and of a file show, once they are passed.
 use mathlib.Core.Path.{_≡_, refl, sym, ap, _∙_}
-use mathlib.Core.Bool.{Bool, true, false, not}
+use mathlib.Core.Bool.{Bool, true, false, not, false≢true}
 use mathlib.Core.List.{List}
 use Prim.Native.Nat.{ℕ, zero, suc, _+_, _*_, _/_, _%_, _≤_, _<_}
 use native.Mathlib.Omega.{arith}
 use lib.Dec.{ltb, eqb}
 use lib.ListN.{length, getD, replicate}
 use borrow.Author.Tests.{ltb-false, leb-false, eqb-true, not-false}
-use Rattle.laws.specs.Fold.{pick, false-ne-true, run}
+use Rattle.laws.specs.Fold.{pick, run}
 use Rattle.laws.specs.Search.{any, any-none}
 use Rattle.laws.specs.Ladder.{passed}
 use Rattle.model.specs.declared.Measures.{Measures}
@@ -53,7 +53,7 @@ mark-small true n e = ltb-false 1023 n e
 mark-small false n e = omega (arith, ltb-false 0 n e)
 
 mark-none : (b : Bool) (n : ℕ) → b ≡ false → pick b (ltb 1023 n) (ltb 0 n) ≡ false → n ≡ 0
-mark-none true n h e = absurd (false-ne-true (sym h))
+mark-none true n h e = absurd (false≢true (sym h))
 mark-none false n h e = omega (arith, ltb-false 0 n e)
 
 pub checked : (st : List ℕ) → checkNumber st ≡ 0 → Checked st

@@ -23,7 +23,7 @@ pos : (n : tie.After-head-of) → 0 < getD (now (S n .args .table)) (S n .args .
 pos n = omega (arith, n .before .before .before .if1 .left)
 
 in-v : (n : tie.After-head-of) → n .head-of .result < sectors (S n .args .m) * 20
-in-v n = arrives (S n .args .m) (now (S n .args .table)) (now (S n .args .keys)) (now (S n .args .keys)) (S n .args .a) (S n .args .u) (S n .pre .2) (n .head-of .result) (n .head-of .ensures) (searched-of (S n .pre .0) .sound) (S n .pre .1) (pos n)
+in-v n = arrives (S n .args .m) (now (S n .args .table)) (now (S n .args .keys)) (now (S n .args .keys)) (S n .args .a) (S n .args .u) (S n .pre .2) (n .head-of .result) (n .head-of .ensures) (searched-of (S n .pre .0) .graph .sound) (S n .pre .1) (pos n)
 
 there : (n : tie.After-head-of) → isPortal (decode (now (S n .args .st))) (n .head-of .result) ≡ true
 there n = leads-to (S n .pre .0) (S n .args .u) (S n .args .a) (n .head-of .result) (S n .pre .2) (n .head-of .ensures) (S n .pre .1) (pos n)

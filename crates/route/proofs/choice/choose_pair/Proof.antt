@@ -5,7 +5,7 @@ use Prim.Native.Nat.{ℕ, _*_, _<_}
 use lib.ListN.{length, getD, replicate, getD-replicate}
 use denote.Ref.{now}
 use borrow.Author.Needs.{needs}
-use Rattle.laws.specs.First.{foremost-within}
+use Rattle.laws.specs.FirstLeast.{foremost-within}
 use Rattle.model.specs.Sectors.{sectors}
 use Rattle.graph.specs.Searching.{searched-in}
 use Rattle.route.specs.FirstPair.{no-start, first-pair}
@@ -30,7 +30,7 @@ zero-at : (c : ℕ) → c < 20 → getD {A = ℕ} (replicate 20 0) c 0 ≡ 0
 zero-at c l = getD-replicate {A = ℕ} 20 c 0 0 l
 
 keys-long : (c : tie.After-keys-to-goal) → length (c .keys-to-goal .last .1 .1 .1 .1 .0) ≡ sectors (S c .args .m) * 20
-keys-long c = c .keys-to-goal .kept .1 .1 .1 .1 .0 ∙ S c .pre .0 .0 .numbers
+keys-long c = c .keys-to-goal .kept .1 .1 .1 .1 .0 ∙ S c .pre .0 .0 .graph .numbers
 
 keys-to-goal-requires : tie.Need-keys-to-goal-requires
 keys-to-goal-requires c κs = search needs
@@ -49,7 +49,7 @@ returns c =
     let g = G (c .before) in
     let s = S g in
     let given = s .pre .0 in
-    no-start (s .args .m) (now (s .args .table)) (given .0 .sound) (s .pre .1) (s .args .p) (s .args .q) (given .1) (given .2) (now (s .args .legs)) (now (s .args .lasts)) (replicate 20 0) zero-at (g .keys-to-goal .last .1 .1 .1 .1 .0) (g .keys-to-goal .ensures) (c .before .first-place .ensures) (c .if1 .taken)
+    no-start (given .0 .graph .sound) (s .pre .1) (s .args .p) (s .args .q) (given .1) (given .2) (now (s .args .legs)) (now (s .args .lasts)) (replicate 20 0) zero-at (g .keys-to-goal .last .1 .1 .1 .1 .0) (g .keys-to-goal .ensures) (c .before .first-place .ensures) (c .if1 .taken)
 
 add-keys-to : tie.Need-add-keys-to
 add-keys-to c = search needs
@@ -58,7 +58,7 @@ keys-to-requires : tie.Need-keys-to-requires
 keys-to-requires c κs =
     let g = G (c .before .before) in
     let given = S g .pre in
-    ((searched-in (given .0 .0) (keys-long g) (given .0 .0 .room), omega (arith, given .0 .1, c .before .if1 .left)), given .1)
+    ((searched-in (given .0 .0) (keys-long g) (given .0 .0 .graph .room), omega (arith, given .0 .1, c .before .if1 .left)), given .1)
 
 slice-aggregate-first-place-2 : tie.Need-slice-aggregate-first-place-2
 slice-aggregate-first-place-2 c = search needs
@@ -81,7 +81,7 @@ returns-2 c =
     let g = G (e .before) in
     let s = S g in
     let given = s .pre .0 in
-    first-pair (s .args .m) (now (s .args .table)) (given .0 .sound) (s .pre .1) (s .args .p) (s .args .q) (given .1) (given .2) (now (s .args .legs)) (now (s .args .lasts)) (replicate 20 0) zero-at (g .keys-to-goal .last .1 .1 .1 .1 .0) (g .keys-to-goal .ensures) (e .before .first-place .ensures) (omega (arith, e .if1 .left)) (T c .keys-to .last .1 .1 .1 .0) (T c .keys-to .ensures) (c .first-place2 .ensures)
+    first-pair (given .0 .graph .sound) (s .pre .1) (s .args .p) (s .args .q) (given .1) (given .2) (now (s .args .legs)) (now (s .args .lasts)) (replicate 20 0) zero-at (g .keys-to-goal .last .1 .1 .1 .1 .0) (g .keys-to-goal .ensures) (e .before .first-place .ensures) (omega (arith, e .if1 .left)) (T c .keys-to .last .1 .1 .1 .0) (T c .keys-to .ensures) (c .first-place2 .ensures)
 
 pub choose-pair-spec : {M : Type 1} → statement M
 choose-pair-spec =

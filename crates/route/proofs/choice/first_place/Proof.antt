@@ -5,7 +5,7 @@ use mathlib.Core.Logic.{⊎-elim}
 use Prim.Native.Nat.{ℕ, _-_, _≤_}
 use denote.Ref.{now}
 use borrow.Author.Needs.{needs}
-use Rattle.laws.specs.First.{Picked, picked-none, picked-take, picked-skip}
+use Rattle.laws.specs.FirstLeast.{Picked, picked-none, picked-take, picked-skip}
 use Rattle.model.specs.LeastPath.{unlinked}
 use Rattle.route.specs.FirstPair.{placeRun}
 use Rattle.route.proofs.choice.first_place.Statement.{statement}

@@ -1,12 +1,12 @@
 -- `through_lists` chooses a pair and takes the route over it.
 use native.Mathlib.Omega.{arith}
 use Prim.Native.Nat.{ℕ, _+_, _*_, _/_, _%_, _<_}
-use mathlib.Core.Path.{_≡_, refl, sym, ap, subst, _∙_}
+use mathlib.Core.Path.{_≡_, sym, ap, subst, _∙_}
 use mathlib.Core.List.{List}
 use lib.ListN.{length, getD}
 use denote.Ref.{now}
 use Rattle.laws.specs.Graph.{Graph}
-use Rattle.laws.specs.First.{Foremost}
+use Rattle.laws.specs.FirstLeast.{Foremost}
 use Rattle.model.specs.Sectors.{sectors, sectorOf}
 use Rattle.model.specs.Portals.{portalGraph}
 use Rattle.model.specs.Halls.{Hall}

@@ -1,0 +1,58 @@
+-- The turn of a portal: what it is asked with, what it leaves, and the turn of one whose edges within its sector offer nothing, of which the arc to the facing portal is all.
+use Prim.Native.Nat.{ℕ, _+_, _*_, _/_, _%_, _≤_, _<_}
+use native.Mathlib.Omega.{arith}
+use mathlib.Core.Path.{_≡_, ap, _∙_}
+use mathlib.Core.Logic.{_≢_}
+use mathlib.Core.List.{List}
+use lib.ListN.{length, getD}
+use Rattle.laws.specs.LeastCosts.{relaxed}
+use Rattle.laws.specs.Waiting.{awaited}
+use Rattle.laws.specs.Extending.{ArcsOf}
+use Rattle.laws.specs.Turns.{Served, served-alone}
+use Rattle.model.specs.declared.Measures.{Measures}
+use Rattle.model.specs.Sectors.{sectors}
+use Rattle.model.specs.Portals.{headOf}
+use Rattle.model.specs.PortalEdges.{head-other}
+use Rattle.graph.specs.EdgeTable.{bare, tableGraph}
+use Rattle.graph.specs.Searching.{Searched}
+
+-- the turn of number u is asked for: lists of keys and of those that wait, and a queue with room from `end` on
+pub record Asked (m : Measures) (table : List ℕ) (u keys wait queue end : ℕ) : Type 0 where
+  pub searched : Searched m table keys wait
+  pub low : u < sectors m * 20
+  pub room : end ≤ queue
+
+-- it was had: all its arcs are taken, and the queue ends at r
+pub record Had (m : Measures) (table : List ℕ) (u : ℕ) (d p e q : List ℕ) (queue r : ℕ) : Type 0 where
+  pub served : Served (tableGraph m table) u (u * 20) d p e q
+  pub room : r ≤ queue
+
+-- the arcs of number u in the table
+pub arcs-of : (m : Measures) (table : List ℕ) (u : ℕ) → ArcsOf (tableGraph m table) u (u * 20) (u * 20 + 20)
+arcs-of m table u e l p q = (omega arith, omega arith)
+
+-- none of the first n places of u within its sector offers less than the portal there has
+abbrev pub Offerless : List ℕ → List ℕ → ℕ → ℕ → Type 0
+Offerless table keys u n = (c : ℕ) → c < n → 0 < getD table (u * 20 + c) 0 → getD keys (u / 20 * 20 + c) 0 ≤ getD keys u 0 + getD table (u * 20 + c) 0
+
+-- the arc to the facing portal
+abbrev pub ownArc : ℕ → ℕ
+ownArc u = u * 20 + u % 20
+
+module _ {m : Measures} {table : List ℕ} (d p : List ℕ) (u : ℕ) (given : Searched m table (length d) (length p)) (l : u < sectors m * 20) (none : Offerless table d u 20) where
+  -- another arc of u offers nothing
+  other : (e : ℕ) → 0 < getD table e 0 → e / 20 ≡ u → e ≢ ownArc u → getD d (tableGraph m table .head e) 0 ≤ getD d u 0 + getD table e 0
+  other e q t n =
+      let c : ℕ = e % 20 in
+      let is : e ≡ u * 20 + c = omega arith in
+      let same : e / 20 / 20 * 20 + c ≡ u / 20 * 20 + c = omega (arith, ap (λ (x : ℕ). x / 20) t) in
+      let to : headOf (bare m) (e / 20) c ≡ u / 20 * 20 + c = head-other (bare m) (e / 20) c (λ z. n (omega (arith, is, z, ap (λ (x : ℕ). x % 20) t))) ∙ same in
+      omega (
+        arith,
+        none c (omega arith) (omega (arith, ap (λ (x : ℕ). getD table x 0) is)),
+        ap (λ (x : ℕ). getD table x 0) is,
+        ap (λ (x : ℕ). getD d x 0) to,
+      )
+
+  pub served-own : Served (tableGraph m table) u (u * 20) d p (relaxed (tableGraph m table) d (ownArc u)) (awaited (tableGraph m table) d p (ownArc u))
+  served-own = served-alone d p (given .graph) l (arcs-of m table u) (omega arith) (omega arith) (λ e _ q t n. other e q t n)

@@ -1,0 +1,3 @@
+// The searches over the portal graph: the least keys to one portal, and to a goal over all its end portals. Document 01, "Stand-in for petgraph".
+pub mod ends;
+pub mod keys;
