@@ -22,8 +22,11 @@ KEPT = {
     "journey/src": "demand 3 of the calls",
     "records/src": "the route call on step records",
     "hallroute/specs/Printed.antt": "what the program prints, for its reader",
-    "model/specs/RouteChosen.antt:chosen-leads": "document 01's choice, for its reader",
-    "model/specs/RouteChosen.antt:chosen-none": "document 01's choice, for its reader",
+    "model/specs/PlainFloor.antt:landing-on": "01's landings as plain floor arithmetic, for their reader",
+    "model/specs/PlainFloor.antt:landing-moved": "01's landings as plain floor arithmetic, for their reader",
+    "model/specs/RouteChosen.antt:chosen-leads": "01's choice of a pair, for its reader",
+    "model/specs/RouteChosen.antt:chosen-none": "01's choice of a pair, for its reader",
+    "model/specs/WindowRuns.antt:in-order": "01's order of windows, for its reader",
 }
 
 SPLIT = re.compile(r"[\s(){}\[\],;.⌜⌝⟦⟧:]+")

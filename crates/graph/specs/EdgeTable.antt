@@ -43,7 +43,7 @@ pub length-table : (h : Hall) → length (edgeTable h) ≡ arcCount (h .measures
 unfolding edgeTable
 length-table h = length-tabulate (λ e. portalGraph h .weight e) (arcCount (h .measures)) 0
 
-pub table-weight : (h : Hall) (e : ℕ) → getD (edgeTable h) e 0 ≡ portalGraph h .weight e
+table-weight : (h : Hall) (e : ℕ) → getD (edgeTable h) e 0 ≡ portalGraph h .weight e
 unfolding edgeTable portalGraph edges
 table-weight h e = go (below-or e (arcCount (h .measures)))
   where

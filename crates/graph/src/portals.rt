@@ -25,7 +25,7 @@ use portal::runs::window_count;
 use store::bytes::u16_at;
 
 // How many numbers for portals a side and a sector have, and how many arcs a sector: as many for each of its numbers.
-pub const SIDE_PORTALS: usize = 5;
+const SIDE_PORTALS: usize = 5;
 
 pub const SECTOR_PORTALS: usize = 20;
 
@@ -38,7 +38,7 @@ pub fn portal_side(p: usize) -> Side
     side_at(p % SECTOR_PORTALS / SIDE_PORTALS)
 }
 
-pub fn mark_of(st: &[u8], m: Measures, p: usize) -> u16
+fn mark_of(st: &[u8], m: Measures, p: usize) -> u16
     requires { ⌜ Opened m (now st) × (portalSector p < sectors m) ⌝ }
     ensures { λ r. ⌜ (r ≡ portalMark (decode (now (st .entry))) p) × (r ≤ 1023) ⌝ }
 {

@@ -15,7 +15,7 @@ use Rattle.listing.specs.Written.{Wrote, wrote-length, wrote-first, wrote-on}
 use Rattle.hallroute.specs.Printed.{pairLine}
 
 -- a text at the front of a buffer
-pub front : {t : List ℕ} {r : ℕ} {xs ys : List ℕ} → Wrote t 0 r xs ys → Counts r ys × (take r ys ≡ t)
+front : {t : List ℕ} {r : ℕ} {xs ys : List ℕ} → Wrote t 0 r xs ys → Counts r ys × (take r ys ≡ t)
 front {t} {r} {xs} {ys} w =
     let size : length t ≡ r = omega (arith, w .place) in
     (counts _ _ (omega (arith, w .fits, wrote-length w)), ap (take r) (wrote-first w) ∙ take-at t (drop (length t) xs) r size)

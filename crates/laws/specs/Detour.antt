@@ -50,7 +50,7 @@ pub data Path {f : Floor} {D : ℕ} (g : Portals f D) : ℕ → ℕ → ℕ → 
 
 -- ---- a path is a walk
 module _ {f : Floor} {D : ℕ} (g : Portals f D) where
-  pub path-walk : {p q c y n : ℕ} → Path g p q c → SomeWalk f (g .mid q) y n → SomeWalk f (g .mid p) y (c + n)
+  path-walk : {p q c y n : ℕ} → Path g p q c → SomeWalk f (g .mid q) y n → SomeWalk f (g .mid p) y (c + n)
   path-walk at w = (w .0, rw zero-add (w .1))
   path-walk {y = y} {n = n} (along {p} {q} {r} {w} {c} e a) b = go (g .edge-is p q w e) (path-walk a b)
     where
@@ -61,27 +61,27 @@ module _ {f : Floor} {D : ℕ} (g : Portals f D) where
           (record { from = g .mid p; to = g .mid q } ∷ t .0, rw same (cross (h .1) (t .1)))
 
   -- leg, path and last stretch, end to end
-  pub route-walk : {x p q y l c t : ℕ} → g .Portal q → Inside f x (g .mid p) l → Path g p q c → Inside f (g .mid q) y t → SomeWalk f x y (l + (c + t))
+  route-walk : {x p q y l c t : ℕ} → g .Portal q → Inside f x (g .mid p) l → Path g p q c → Inside f (g .mid q) y t → SomeWalk f x y (l + (c + t))
   route-walk {q = q} port leg path tail =
       let rest = path-walk path ([], inside-alone tail (g .mid-open q port)) in
       (rest .0, inside-walk leg (rest .1))
 
 -- ---- a walk has a path beside it
 -- For a walk of n moves, k of them over a border, of which the first comes after `before` moves: a start portal, an end portal and a path.
-pub record Beside {f : Floor} {D : ℕ} (g : Portals f D) (x y n k : ℕ) : Type 0 where
+record Beside {f : Floor} {D : ℕ} (g : Portals f D) (x y n k : ℕ) : Type 0 where
   pub first : ℕ
-  pub last : ℕ
-  pub first-is : g .Portal first
-  pub last-is : g .Portal last
-  pub before : ℕ
+  last : ℕ
+  first-is : g .Portal first
+  last-is : g .Portal last
+  before : ℕ
   pub leg : ℕ
   pub cost : ℕ
-  pub tail : ℕ
+  tail : ℕ
   pub leg-is : Inside f x (g .mid first) leg
-  pub path : Path g first last cost
-  pub tail-is : Inside f (g .mid last) y tail
-  pub leg-low : leg ≤ before + D
-  pub run-low : cost + tail + D + before ≤ n + 2 * D * k
+  path : Path g first last cost
+  tail-is : Inside f (g .mid last) y tail
+  leg-low : leg ≤ before + D
+  run-low : cost + tail + D + before ≤ n + 2 * D * k
 
 module _ {f : Floor} {D : ℕ} (g : Portals f D) where
   -- the first move is inside the sector
@@ -151,7 +151,7 @@ module _ {f : Floor} {D : ℕ} (g : Portals f D) where
         run-low = omega (arith, b .run-low, b .leg-low, w .from-low, j .1);
       }
 
-  pub walk-beside : {x y n : ℕ} {over : List BorderMove} → Walk f x y n over → 0 < length over → Beside g x y n (length over)
+  walk-beside : {x y n : ℕ} {over : List BorderMove} → Walk f x y n over → 0 < length over → Beside g x y n (length over)
   walk-beside (stand o) h = absurd (omega arith)
   walk-beside (step s w) h = beside-step s (walk-beside w h)
   walk-beside (cross {x} {y} {z} {n} {over} c w) h = go (ℕ-discrete (length over) 0) (λ l. walk-beside w l)
@@ -161,7 +161,7 @@ module _ {f : Floor} {D : ℕ} (g : Portals f D) where
       go (no e) more = beside-cross c (more (omega arith))
 
 -- where no moves inside a sector join x and y, every walk leaves it
-pub walk-leaves : {f : Floor} {x y n : ℕ} {over : List BorderMove} → ((m : ℕ) → ¬ Inside f x y m) → Walk f x y n over → 0 < length over
+walk-leaves : {f : Floor} {x y n : ℕ} {over : List BorderMove} → ((m : ℕ) → ¬ Inside f x y m) → Walk f x y n over → 0 < length over
 walk-leaves {n = n} {over} apart w = go (ℕ-discrete (length over) 0)
   where
     go : Dec (length over ≡ 0) → 0 < length over
@@ -213,12 +213,12 @@ pub record Promise (f : Floor) (D x y : ℕ) (Given : ℕ → ℕ → Type 0) : 
 
 module _ {f : Floor} {D : ℕ} (g : Portals f D) (c : Lengths g) where
   -- a pair is a walk
-  pub pair-walk : {x y p e : ℕ} → Pair g c x y p e → SomeWalk f x y (leg-of g c x p + run-of g c y p e)
+  pair-walk : {x y p e : ℕ} → Pair g c x y p e → SomeWalk f x y (leg-of g c x p + run-of g c y p e)
   pair-walk {x} {y} {p} {e} w =
       route-walk g (w .end-is) (c .moves-least .attained x (g .mid p) (w .start-joined)) (c .cost-least .attained p e (w .pair-linked)) (c .moves-least .attained (g .mid e) y (w .end-joined))
 
   -- a walk that leaves the sector has a pair beside it, of low run, and of low leg and run together
-  pub walk-pair : {x y n : ℕ} {over : List BorderMove} → Walk f x y n over → 0 < length over
+  walk-pair : {x y n : ℕ} {over : List BorderMove} → Walk f x y n over → 0 < length over
       → (p : ℕ) × (e : ℕ) × Pair g c x y p e × (run-of g c y p e + D ≤ n + 2 * D * length over) × (leg-of g c x p + run-of g c y p e ≤ n + 2 * D * length over)
   walk-pair {x} {y} w h =
       let b = walk-beside g w h in

@@ -41,10 +41,6 @@ module _ {f : Floor} where
   inside-join here b = rw zero-add b
   inside-join (move s a) b = rw suc-add (move s (inside-join a b))
 
-  pub inside-open : {x y n : ℕ} → Inside f x y n → f .Open x → f .Open y
-  inside-open here o = o
-  inside-open (move {x} {y} s a) o = inside-open a (f .step-opens x y s)
-
   -- a walk may begin with them
   pub inside-walk : {x y z m n : ℕ} {over : List BorderMove} → Inside f x y m → Walk f y z n over → Walk f x z (m + n) over
   inside-walk here w = rw zero-add w

@@ -7,11 +7,8 @@ use native.Mathlib.Nat.{le-antisymm}
 use native.Mathlib.Numerals.{add-one}
 use native.Mathlib.Omega.{arith}
 use lib.ListN.{length}
-
--- the first of two where a test holds, else the second
-abbrev pub pick : {A : Type 0} → Bool → A → A → A
-pick true a b = a
-pick false a b = b
+-- the first of two where a test holds, else the second: the kit's, under a name that says so
+pub use mathlib.Core.Bool.{cond as pick}
 
 -- a choice has what both sides have
 pub pick-keeps : {A : Type 0} (P : A → Type 0) (b : Bool) (x y : A) → P x → P y → P (pick b x y)

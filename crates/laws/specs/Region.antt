@@ -37,10 +37,6 @@ module _ (a n : ℕ) (f : List ℕ → List ℕ) (xs : List ℕ) (fits : a + n �
   unfolding within
   length-within = simp (length-append, length-take, length-drop, kept) (omega arith)
 
-  front-within : take a (within a n f xs) ≡ take a xs
-  unfolding within
-  front-within = take-at (take a xs) (f (region a n xs) ++ drop n (drop a xs)) a (length-take-le a xs (omega arith))
-
   rest-within : drop a (within a n f xs) ≡ f (region a n xs) ++ drop n (drop a xs)
   unfolding within
   rest-within = drop-at (take a xs) (f (region a n xs) ++ drop n (drop a xs)) a (length-take-le a xs (omega arith))

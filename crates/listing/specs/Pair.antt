@@ -54,7 +54,7 @@ module _ {answer : Routed} (st : List ℕ) (source goal : ℕ) (list : List ℕ)
 
   -- the line is the text of the pair
   module _ {flat : List ℕ} (left : flat ≡ routeFlat st source goal list) where
-    pub line-of-pair : lineOf source goal answer flat ≡ pairText st source goal (routeOf (decode st) source goal)
+    line-of-pair : lineOf source goal answer flat ≡ pairText st source goal (routeOf (decode st) source goal)
     unfolding routeAnswer routeFlat routeNumber pairText
     line-of-pair = rw (answered, left, room, line-of-left)
 

@@ -36,7 +36,7 @@ fn put_digits(line: &mut [u8], at: usize, n: usize, count: usize)
     }
 }
 
-pub fn put_decimal(line: &mut [u8], at: usize, n: usize) -> usize
+fn put_decimal(line: &mut [u8], at: usize, n: usize) -> usize
     requires { ⌜ at + length (decimal n) ≤ length (now line) ⌝ }
     ensures { λ r. ⌜ Wrote (decimal n) at r (now (line .entry)) (now (line .exit)) ⌝ }
 {

@@ -23,7 +23,7 @@ pub cell-low : (a : Axis) (i : ℕ) → i < 100 → cellOn (cellAt i) a < 10
 cell-low Column i l = omega arith
 cell-low Row i l = omega arith
 
-pub same-cell : (a : Axis) (i j : ℕ) → cellOn (cellAt i) a ≡ cellOn (cellAt j) a → cellOn (cellAt i) (other a) ≡ cellOn (cellAt j) (other a) → i ≡ j
+same-cell : (a : Axis) (i j : ℕ) → cellOn (cellAt i) a ≡ cellOn (cellAt j) a → cellOn (cellAt i) (other a) ≡ cellOn (cellAt j) (other a) → i ≡ j
 same-cell Column i j e f = omega arith
 same-cell Row i j e f = omega arith
 

@@ -1,4 +1,4 @@
--- `moves` gives the fewest moves, and `apart` exactly where no moves lead. The way back is as long, the triangle rule holds, and "joined" is an equivalence.
+-- `moves` gives the fewest moves, and `apart` exactly where no moves lead. The way back is as long.
 use Prim.Native.Nat.{ℕ, _+_, _*_, _/_, _%_, _≤_, _<_}
 use native.Mathlib.Omega.{arith}
 use mathlib.Core.Path.{_≡_, refl, sym, _∙_}
@@ -9,7 +9,7 @@ use lib.ListN.{getD}
 use borrow.Author.Tests.{ltb-true, lt-ltb, eqb-true, eq-eqb}
 use Rattle.laws.specs.Fold.{pick}
 use Rattle.laws.specs.Search.{both}
-use Rattle.laws.specs.Graph.{Sound, Walk, Least, Settled, BothWays, none-less, settled-least, reached, walk-join, least-back}
+use Rattle.laws.specs.Graph.{Sound, Walk, Least, Settled, BothWays, none-less, settled-least, reached, least-back}
 use Rattle.laws.specs.LeastCosts.{least-costs-settled}
 use Rattle.model.specs.declared.Side.{Side}
 use Rattle.model.specs.Cells.{sideNumber, sideAt, opposite, beside}
@@ -83,20 +83,13 @@ module _ (costs : List ℕ) where
     moves-any w = (reached {most = 1} moves-settled move-sound (λ e l. move-low costs (e / 4) (beside (e / 4) (sideAt (e % 4)))) (omega arith) w, none-less moves-settled w)
 
   -- a cell is no moves from itself, blocked or not
-  pub moves-self : (i : ℕ) → i < 100 → getD (moves costs i) i 0 ≡ 0
-  moves-self i l = moves-settled i l .rough .start
-
   -- the way back is as long
-  pub moves-back : (i j : ℕ) → i < 100 → j < 100 → getD (moves costs i) j 0 < apart → getD (moves costs j) i 0 ≡ getD (moves costs i) j 0
+  moves-back : (i j : ℕ) → i < 100 → j < 100 → getD (moves costs i) j 0 < apart → getD (moves costs j) i 0 ≡ getD (moves costs i) j 0
   moves-back i j l k b =
       let there = least-back move-back (moves-fewest i l j k b) in
       let any = moves-any j k (there .attained) in
       let back = least-back move-back (moves-fewest j k i l (any .0)) in
       omega (arith, any .1, moves-any i l (back .attained) .1)
-
-  pub moves-triangle : (i j k : ℕ) → i < 100 → j < 100 → k < 100 → getD (moves costs i) j 0 < apart → getD (moves costs j) k 0 < apart
-      → (getD (moves costs i) k 0 < apart) × (getD (moves costs i) k 0 ≤ getD (moves costs i) j 0 + getD (moves costs j) k 0)
-  moves-triangle i j k a b c p q = moves-any i a (walk-join (moves-fewest i a j b p .attained) (moves-fewest j b k c q .attained))
 
 -- ---- joined
 pub record Joined (costs : List ℕ) (x y : ℕ) : Type 0 where
@@ -112,23 +105,9 @@ unfolding joined
 is-joined costs x y j = rw (eq-eqb (sectorOf x) (sectorOf y) (j .sector), lt-ltb (movesTo costs x y) apart (j .near))
 
 module _ (costs : List ℕ) where
-  pub joined-self : (x : ℕ) → joined costs x x ≡ true
-  unfolding movesTo
-  joined-self x = is-joined costs x x (record { sector = refl; near = omega (arith, moves-self (costsOf costs (sectorOf x)) (placeOf x) (omega arith)) })
-
   pub joined-back : (x y : ℕ) → joined costs x y ≡ true → (joined costs y x ≡ true) × (movesTo costs y x ≡ movesTo costs x y)
   unfolding movesTo
   joined-back x y e =
       let j = joined-is costs x y e in
       let same : movesTo costs y x ≡ movesTo costs x y = rw (← j .sector) (moves-back (costsOf costs (sectorOf x)) (placeOf x) (placeOf y) (omega arith) (omega arith) (j .near)) in
       (is-joined costs y x (record { sector = sym (j .sector); near = omega (arith, same, j .near) }), same)
-
-  pub joined-on : (x y z : ℕ) → joined costs x y ≡ true → joined costs y z ≡ true → (joined costs x z ≡ true) × (movesTo costs x z ≤ movesTo costs x y + movesTo costs y z)
-  unfolding movesTo
-  joined-on x y z e f =
-      let j = joined-is costs x y e in
-      let k = joined-is costs y z f in
-      let near : getD (moves (costsOf costs (sectorOf x)) (placeOf y)) (placeOf z) 0 < apart = rw (j .sector) (k .near) in
-      let t = moves-triangle (costsOf costs (sectorOf x)) (placeOf x) (placeOf y) (placeOf z) (omega arith) (omega arith) (omega arith) (j .near) near in
-      let same : movesTo costs y z ≡ getD (moves (costsOf costs (sectorOf x)) (placeOf y)) (placeOf z) 0 = rw (j .sector) refl in
-      (is-joined costs x z (record { sector = j .sector ∙ k .sector; near = t .0 }), omega (arith, t .1, same))

@@ -19,7 +19,7 @@ pub on-axis : (n wide : ℕ) → onAxis n wide ≡ true → (1 ≤ n) × (n ≤ 
 on-axis n wide h = let t = both (leb 1 n) (leb n wide) h in (leb-true 1 n (t .0), leb-true n wide (t .1))
 
 -- a shift that stays on the floor leads to one of its sectors
-pub shifted-lt : (m : Measures) (s east south : ℕ) → onFloor m s east south ≡ true → shifted m s east south < sectors m
+shifted-lt : (m : Measures) (s east south : ℕ) → onFloor m s east south ≡ true → shifted m s east south < sectors m
 unfolding onFloor
 shifted-lt m s east south h =
     let t = both (onAxis (columnOf m s + east) (m .columns)) (onAxis (rowOf m s + south) (m .rows)) h in

@@ -1,5 +1,5 @@
 -- The portal graph holds exactly 01's edges: a facing pair at weight 1, and two portals of a sector whose midpoints are joined, at their fewest moves. Every edge leads both ways.
-use Prim.Native.Nat.{ℕ, zero, suc, _+_, _*_, _/_, _%_, _≤_, _<_}
+use Prim.Native.Nat.{ℕ, _≤_, _<_}
 use native.Mathlib.Omega.{arith}
 use native.Mathlib.Decide.{ℕ-discrete}
 use mathlib.Core.Path.{_≡_, refl, sym, ap, ap₂, _∙_}
@@ -21,7 +21,7 @@ use Rattle.model.specs.SectorSides.{lies-beyond}
 use Rattle.model.specs.Moves.{apart, movesTo, joined}
 use Rattle.model.specs.MovesFewest.{joined-is, is-joined, joined-back}
 use Rattle.model.specs.Halls.{Hall}
-use Rattle.model.specs.Portals.{sidePortals, sectorPortals, portalCount, portalAt, portalSector, portalSide, portalWindow, portalPlace, placePortal, isPortal, midpoint, midCell, movesFrom, facing, headOf, keyStep, key, outerEdge, innerEdge, edgeAt, edgesFrom, edgesOf, edges, arcTail, arcPlace, arcAt, portalGraph}
+use Rattle.model.specs.Portals.{sidePortals, sectorPortals, portalCount, portalAt, portalSector, portalSide, portalWindow, portalPlace, placePortal, isPortal, midpoint, midCell, movesFrom, facing, headOf, key, outerEdge, innerEdge, edgeAt, edgesFrom, edgesOf, edges, arcTail, arcPlace, arcAt, portalGraph}
 use Rattle.model.specs.PortalNumbers.{numbered, number-is, portal-is, portal-low}
 use Rattle.model.specs.PortalCrossings.{Fits, mid-sector, moves-between}
 
@@ -31,7 +31,7 @@ pub data Edge (h : Hall) (p q w : ℕ) : Type 0 where
   inner : isPortal h p ≡ true → isPortal h q ≡ true → p ≢ q → joined (h .scaled) (midCell h p) (midCell h q) ≡ true → w ≡ movesTo (h .scaled) (midCell h p) (midCell h q) → Edge h p q w
 
 module _ {h : Hall} {p q w : ℕ} where
-  pub edge-from : Edge h p q w → isPortal h p ≡ true
+  edge-from : Edge h p q w → isPortal h p ≡ true
   edge-from (outer a b t f e) = a
   edge-from (inner a b d j e) = a
 
@@ -39,7 +39,7 @@ module _ {h : Hall} {p q w : ℕ} where
   edge-to (outer a b t f e) = b
   edge-to (inner a b d j e) = b
 
-  pub edge-low : Edge h p q w → w < apart
+  edge-low : Edge h p q w → w < apart
   edge-low (outer a b t f e) = omega arith
   edge-low (inner a b d j e) = omega (arith, joined-is (h .scaled) (midCell h p) (midCell h q) j .near)
 
@@ -49,7 +49,7 @@ unfolding facing
 facing-at h s side j l = let n = numbered s side j l in rw (n .sector, n .on, n .window)
 
 -- and it faces back
-pub facing-back : (h : Hall) (p : ℕ) → isPortal h p ≡ true → hasBeyond (h .measures) (portalSector p) (portalSide p) ≡ true
+facing-back : (h : Hall) (p : ℕ) → isPortal h p ≡ true → hasBeyond (h .measures) (portalSector p) (portalSide p) ≡ true
     → (hasBeyond (h .measures) (portalSector (facing h p)) (portalSide (facing h p)) ≡ true) × (facing h (facing h p) ≡ p)
 unfolding facing
 facing-back h p is there =
@@ -57,7 +57,7 @@ facing-back h p is there =
     let n = numbered (beyond (h .measures) (portalSector p) (portalSide p)) (opposite (portalSide p)) (portalWindow p) (omega arith) in
     (rw (n .sector, n .on) (b .back-has), rw (n .sector, n .on, n .window, b .back, opposite-is (portalSide p) .twice) (sym (number-is p)))
 
-pub edge-back : {h : Hall} {p q w : ℕ} → Edge h p q w → Edge h q p w
+edge-back : {h : Hall} {p q w : ℕ} → Edge h p q w → Edge h q p w
 edge-back {h} {p} (outer a b t f e) = let back = facing-back h p a t in outer b a (rw f (back .0)) (rw f (sym (back .1))) e
 edge-back {h} {p} {q} (inner a b d j e) = let back = joined-back (h .scaled) (midCell h p) (midCell h q) j in inner b a (λ s. d (sym s)) (back .0) (e ∙ sym (back .1))
 

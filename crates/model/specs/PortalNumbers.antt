@@ -1,5 +1,5 @@
 -- Portals by number: from sector, side and window, and back. What a portal is, taken apart and put together.
-use Prim.Native.Nat.{ℕ, _+_, _*_, _/_, _%_, _<_}
+use Prim.Native.Nat.{ℕ, _/_, _%_, _<_}
 use native.Mathlib.Omega.{arith}
 use mathlib.Core.Path.{_≡_, sym, ap, _∙_}
 use mathlib.Core.Bool.{true}
@@ -45,7 +45,7 @@ module _ (h : Hall) (p : ℕ) where
       let t = both (ltb (portalSector p) (sectors (h .measures))) (ltb (portalWindow p) (windowCount (portalMark h p))) e in
       record { inside = ltb-true (portalSector p) (sectors (h .measures)) (t .0); among = ltb-true (portalWindow p) (windowCount (portalMark h p)) (t .1) }
 
-  pub is-portal : Portal h p → isPortal h p ≡ true
+  is-portal : Portal h p → isPortal h p ≡ true
   unfolding isPortal
   is-portal t = rw (lt-ltb (portalSector p) (sectors (h .measures)) (t .inside), lt-ltb (portalWindow p) (windowCount (portalMark h p)) (t .among))
 

@@ -1,7 +1,7 @@
 -- The two orders of portals: the number is list order (sector, then side N, E, S, W, then place), and `nodeRank`, PortalNode order, tells portals apart too.
-use Prim.Native.Nat.{ℕ, _+_, _*_, _/_, _%_, _≤_, _<_}
+use Prim.Native.Nat.{ℕ, _+_, _*_, _<_}
 use native.Mathlib.Omega.{arith}
-use mathlib.Core.Path.{_≡_, refl, sym, ap, _∙_}
+use mathlib.Core.Path.{_≡_, sym, ap, _∙_}
 use mathlib.Core.Bool.{true}
 use Rattle.laws.specs.FirstPath.{Tells}
 use Rattle.model.specs.declared.Side.{Side}
@@ -58,7 +58,7 @@ module _ (h : Hall) (fits : Fits h) where
       first-apart (portalMark h q) marked (portalWindow p) (portalWindow q) among (portal-is h q iq .among)
       (rank-place (portalSide q) (firstPlace (portalMark h q) (portalWindow p)) (firstPlace (portalMark h q) (portalWindow q)) (omega arith) (omega arith) (rw (s, k) at e))
 
-  pub rank-apart : (p q : ℕ) → isPortal h p ≡ true → isPortal h q ≡ true → nodeRank h p ≡ nodeRank h q → p ≡ q
+  rank-apart : (p q : ℕ) → isPortal h p ≡ true → isPortal h q ≡ true → nodeRank h p ≡ nodeRank h q → p ≡ q
   unfolding nodeRank
   rank-apart p q ip iq e =
       let a = ranks-low p ip in

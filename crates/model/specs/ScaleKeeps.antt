@@ -23,7 +23,7 @@ walk-keeps P keep m s i k xs p =
     p
 
 module _ (P : List ℕ → Type 0) (m : Measures) (keep : (s i k : ℕ) (xs : List ℕ) → P xs → P (walk m s i k xs)) (base : List ℕ) where
-  pub cell-keeps : (s i : ℕ) (xs : List ℕ) → P xs → P (scaleCell m base s i xs)
+  cell-keeps : (s i : ℕ) (xs : List ℕ) → P xs → P (scaleCell m base s i xs)
   unfolding scaleCell
   cell-keeps s i xs p = pick-keeps P (openAt base (floorNumber s i)) _ _ p (run-keeps (walk m s i) P (keep s i) 8 xs p)
 

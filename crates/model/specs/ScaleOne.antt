@@ -12,10 +12,10 @@ use Rattle.laws.specs.Region.{region, within, within-same, region-within, set-w
 use Rattle.model.specs.declared.Measures.{Measures}
 use Rattle.model.specs.Sectors.{cells, sectorOf, placeOf, costsOf}
 use Rattle.model.specs.Directions.{compass, landing}
-use Rattle.model.specs.Scaling.{isWall, passes, blockStep, blockPassed, walk, scaleCell, scaleSector, scaleFloor}
+use Rattle.model.specs.Scaling.{isWall, passes, blockStep, blockPassed, walk, scaleSector, scaleFloor}
 use Rattle.model.specs.Change.{nearby, isThere, forNearby, resetSector, rescaled}
 use Rattle.model.specs.Nearby.{atNearby}
-use Rattle.model.specs.ScaleKeeps.{cell-keeps, sector-keeps, floor-keeps, nearby-keeps}
+use Rattle.model.specs.ScaleKeeps.{sector-keeps, floor-keeps, nearby-keeps}
 
 -- one step passes a cell and meets no wall, or it meets one and has passed none
 one-step : (p : ℕ → Bool) (f : ℕ → List ℕ → List ℕ) (xs : List ℕ) (k : ℕ) → k ≡ 1 → pick (ltb (first p k) k) (run f (first p k) xs) xs ≡ xs
@@ -27,16 +27,13 @@ one-step p f xs k e = rw e (go (p 0))
     go false = refl
 
 module _ (m : Measures) (one : m .scale ≡ 1) where
-  pub walk-one : (s i k : ℕ) (xs : List ℕ) → walk m s i k xs ≡ xs
+  walk-one : (s i k : ℕ) (xs : List ℕ) → walk m s i k xs ≡ xs
   unfolding walk passes blockPassed
   walk-one s i k xs = one-step (λ n. isWall m xs s (landing i (compass k) (n + 1))) (blockStep s i (compass k)) xs (m .scale) one
 
   -- what is xs before a walk is xs after it
   still : (xs : List ℕ) (s i k : ℕ) (ys : List ℕ) → ys ≡ xs → walk m s i k ys ≡ xs
   still xs s i k ys e = walk-one s i k ys ∙ e
-
-  pub cell-one : (base : List ℕ) (s i : ℕ) (xs : List ℕ) → scaleCell m base s i xs ≡ xs
-  cell-one base s i xs = cell-keeps (λ (ys : List ℕ). ys ≡ xs) m (still xs) base s i xs refl
 
   pub sector-one : (base : List ℕ) (s : ℕ) (xs : List ℕ) → scaleSector m base s xs ≡ xs
   sector-one base s xs = sector-keeps (λ (ys : List ℕ). ys ≡ xs) m (still xs) base s xs refl

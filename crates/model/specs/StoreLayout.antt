@@ -30,14 +30,6 @@ unfolding marksIn
 length-marks m st = length-tabulate (λ k. u16At st (4 + 2 * cells m + 2 * k)) (sectors m * 4) 0
 
 module _ (st : List ℕ) where
-  pub decode-measures : decode st .measures ≡ measuresAt st
-  unfolding decode
-  decode-measures = refl
-
-  pub base-at : (n : ℕ) → n < cells (measuresAt st) → getD (decode st .base) n 0 ≡ getD st (4 + n) 0
-  unfolding decode
-  base-at n h = getD-region 4 (cells (measuresAt st)) st n h
-
   pub scaled-at : (n : ℕ) → n < cells (measuresAt st) → getD (decode st .scaled) n 0 ≡ getD st (4 + cells (measuresAt st) + n) 0
   unfolding decode
   scaled-at n h = getD-region (4 + cells (measuresAt st)) (cells (measuresAt st)) st n h

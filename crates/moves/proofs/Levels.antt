@@ -163,7 +163,7 @@ module _ (costs : List ℕ) (from : ℕ) (low : from < 100) (start : openAt cost
           let z : h ≡ 1 = omega arith in
           rw (z, g .lower) (omega (arith, grown-only (getD words 1 0) (wordAt l₀ d 1) (wordAt l₀ d 0 / 2 ^ 44) k, cells-out costs given 1 k (omega arith) o))
 
-  pub levels-more : Levels (far costs from) l (d + 1 + 1)
+  levels-more : Levels (far costs from) l (d + 1 + 1)
   levels-more = record { long = g .long ∙ all .long; each = λ e h. go e (below-or e (d + 1)) h }
     where
       go : (e : ℕ) → (e < d + 1) ⊎ (d + 1 ≤ e) → e < d + 1 + 1 → Level (far costs from) l e
@@ -171,7 +171,7 @@ module _ (costs : List ℕ) (from : ℕ) (low : from < 100) (start : openAt cost
       go e (inr k) h = let z : e ≡ d + 1 = omega arith in rw z (record { out = next-out; yes = next-yes; no = next-no })
 
   -- where it is level d, no cell has d + 1 moves
-  pub whole-still : change ≡ 0 → (i : ℕ) → i < 100 → far costs from i < 255 → far costs from i < d + 1
+  whole-still : change ≡ 0 → (i : ℕ) → i < 100 → far costs from i < 255 → far costs from i < d + 1
   whole-still z i h m = let most : far costs from i ≤ d = far-still costs from low d none i h m in omega arith
     where
       none : (j : ℕ) → j < 100 → far costs from j ≡ d + 1 → ⊥
@@ -206,7 +206,7 @@ module _ (costs : List ℕ) (from : ℕ) (low : from < 100) {l : List ℕ} {n : 
           top (inl a) = absurd (omega (arith, whole i h a))
           top (inr a) = a
 
-  pub told : n ≤ 101 → Spread (moves costs from) l n
+  told : n ≤ 101 → Spread (moves costs from) l n
   unfolding movesIn
   told few = record {
     long = all .long;

@@ -15,7 +15,7 @@ use portal::marks::side_mark;
 use store::bytes::u16_at;
 
 // Mark k of a store.
-pub fn mark_in(st: &[u8], m: Measures, k: usize) -> u16
+fn mark_in(st: &[u8], m: Measures, k: usize) -> u16
     requires { ⌜ Accepted m × (sizeOf m ≤ length (now st)) × (k < sectors m * 4) ⌝ }
     ensures { λ r. ⌜ r ≡ getD (marksIn m (now (st .entry))) k 0 ⌝ }
 {

@@ -62,10 +62,10 @@ pub record Split (mark : ℕ) : Type 0 where
   pub high : pastOf mark ≤ 10
 
 -- Window j is the first window of what is left without the j before it.
-pub record Leads (mark j : ℕ) : Type 0 where
+record Leads (mark j : ℕ) : Type 0 where
   pub some : 0 < restAfter mark j
-  pub small : restAfter mark j ≤ 1023
-  pub same : placesOf (restAfter mark j) 0 ≡ placesOf mark j
+  small : restAfter mark j ≤ 1023
+  same : placesOf (restAfter mark j) 0 ≡ placesOf mark j
 
 module _ (mark : ℕ) (small : mark ≤ 1023) where
   tested : (eqb (counted mark) (windowCount mark) ≡ true) × (implies (ltb 0 mark) (splits mark) ≡ true) × (all (leads mark) 5 ≡ true)
@@ -105,7 +105,7 @@ module _ (mark : ℕ) (small : mark ≤ 1023) where
       past : Bool
       past = eqb (pastOf mark) (suc (lastPlace mark 0)) && rest
 
-  pub lead : (j : ℕ) → j < windowCount mark → Leads mark j
+  lead : (j : ℕ) → j < windowCount mark → Leads mark j
   unfolding leads
   lead j h =
       let t₁ = both (ltb 0 left) low (implied (ltb j (windowCount mark)) (ltb 0 left && low) (all-at (leads mark) 5 j (tested .2) (omega (arith, few-windows mark (omega arith)))) (lt-ltb j (windowCount mark) h)) in

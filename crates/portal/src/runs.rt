@@ -11,7 +11,7 @@ pub struct OpenRun {
 }
 
 // The first window of a mark, and the mark without it.
-pub struct RunAndRest {
+struct RunAndRest {
     pub run: OpenRun,
     pub rest: u16,
 }

@@ -45,7 +45,7 @@ shown m xs p = pick (isCell m p) (getD xs (numberAt m p) 255) 255
 unfoldable pub boardOf : Measures → List ℕ → List ℕ
 boardOf m xs = tabulate (shown m xs) 14400 0
 
-pub length-board : (m : Measures) (xs : List ℕ) → length (boardOf m xs) ≡ 14400
+length-board : (m : Measures) (xs : List ℕ) → length (boardOf m xs) ≡ 14400
 unfolding boardOf
 length-board m xs = length-tabulate (shown m xs) 14400 0
 

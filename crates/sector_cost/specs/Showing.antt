@@ -45,7 +45,7 @@ module _ {m : Measures} {xs : List ℕ} where
       walls : Showing m xs 0 (replicate 14400 255)
       walls = record { passed = tabled-none (shown m xs) 14400 (replicate 14400 255) (length-replicate {A = ℕ} 14400 255); ahead = λ p _. getD-replicate {A = ℕ} 14400 p 255 0 }
 
-  pub showing-all : {k : ℕ} {bs : List ℕ} → Showing m xs k bs → 14400 ≤ k → bs ≡ boardOf m xs
+  showing-all : {k : ℕ} {bs : List ℕ} → Showing m xs k bs → 14400 ≤ k → bs ≡ boardOf m xs
   unfolding boardOf
   showing-all h l = tabled-all (h .passed) l
 

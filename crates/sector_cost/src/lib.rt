@@ -95,7 +95,7 @@ pub fn scale_all_costfields(m: Measures, base: &[u8], scaled: &mut [u8])
 }
 
 // Scaled costs are reset to base in sector s.
-pub fn reset_sector(base: &[u8], s: usize, scaled: &mut [u8])
+fn reset_sector(base: &[u8], s: usize, scaled: &mut [u8])
     requires { ⌜ (s * 100 + 100 ≤ length (now base)) × (length (now scaled) ≡ length (now base)) ⌝ }
     ensures { λ _. ⌜ now (scaled .exit) ≡ resetSector (now (base .entry)) s (now (scaled .entry)) ⌝ }
 {

@@ -58,7 +58,7 @@ either false b e = inr e
 
 module _ {m : Measures} (h : Accepted m) (k : Side) where
   -- they are those without a sector beyond
-  pub end-by : (i : ℕ) → i < endLine m k .count → By m (axis k) (last (sense k) (wide m (axis k))) i (sectorIn (endLine m k) i)
+  end-by : (i : ℕ) → i < endLine m k .count → By m (axis k) (last (sense k) (wide m (axis k))) i (sectorIn (endLine m k) i)
   unfolding endLine
   end-by i l = rw (strides (axis k) (last (sense k) (wide m (axis k))) i) (sector-by m (axis k) (last (sense k) (wide m (axis k))) i (last-low (sense k) (wide m (axis k)) (some (axis k))) l)
     where
@@ -74,7 +74,7 @@ module _ {m : Measures} (h : Accepted m) (k : Side) where
       last-low Lower n l = l
       last-low Higher n l = omega arith
 
-  pub end-none : (i : ℕ) → i < endLine m k .count → hasBeyond m (sectorIn (endLine m k) i) k ≡ false
+  end-none : (i : ℕ) → i < endLine m k .count → hasBeyond m (sectorIn (endLine m k) i) k ≡ false
   end-none i l = let b = end-by i l in at-end m (sectorIn (endLine m k) i) (b .on) k .1 (b .along)
 
   none-end : (s : ℕ) → s < sectors m → hasBeyond m s k ≡ false → (i : ℕ) × (i < endLine m k .count) × (sectorIn (endLine m k) i ≡ s)
