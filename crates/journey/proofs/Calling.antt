@@ -101,23 +101,38 @@ module _ {calls : List ℕ} {at : ℕ} {st₀ steps₀ st steps : List ℕ} (m :
 
 pub ruleset making = (made-none, made-turn, made-store, made-steps)
 
--- ---- build and the calls
-module _ (m : Measures) (base lent : List ℕ) (list : List Call) (steps : List ℕ) {number : ℕ} (is : number ≡ buildNumber m base lent) where
+-- ---- build, the calls, and the last route call
+module _ (m : Measures) (base lent : List ℕ) (list : List Call) (source goal : ℕ) (steps : List ℕ) {number : ℕ} (is : number ≡ buildNumber m base lent) where
   -- build refuses
   module _ (refused : 0 < number) where
+    old-kept : {A : Type 0} (new old : A) → old ≡ ifAccepted (buildNumber m base lent) new old
+    old-kept new old = rw (← is) (not-accepted number new old refused)
+
     pub refused-store : {out : List ℕ} → out ≡ buildInto m base lent → out ≡ journeyInto m base lent list
     unfolding journeyInto
-    refused-store e = e ∙ sym (build-kept m base lent is refused) ∙ rw (← is) (not-accepted number (storeAfter (buildInto m base lent) list) lent refused)
+    refused-store e = e ∙ sym (build-kept m base lent is refused) ∙ old-kept (storeAfter (buildInto m base lent) list) lent
 
     pub refused-steps : steps ≡ reachSteps m base lent list steps
     unfolding reachSteps
-    refused-steps = rw (← is) (not-accepted number (stepsAfter (buildInto m base lent) list steps) steps refused)
+    refused-steps = old-kept (stepsAfter (buildInto m base lent) list steps) steps
 
-  -- build accepts: `first` is the store that it leaves
+    pub refused-answer : Refused number ≡ journeyAnswer m base lent list source goal (length steps / 6)
+    unfolding journeyAnswer
+    refused-answer = rw (← is) (not-accepted number (routeAnswer (storeAfter (buildInto m base lent) list) source goal (length steps / 6)) (Refused number) refused)
+
+    pub refused-last : {out : List ℕ} → out ≡ reachSteps m base lent list steps → out ≡ journeySteps m base lent list source goal steps
+    unfolding journeySteps
+    refused-last e = e ∙ sym refused-steps ∙ old-kept (routeFlat (storeAfter (buildInto m base lent) list) source goal (stepsAfter (buildInto m base lent) list steps)) steps
+
+    pub refused-keeps : {r : Routed} → Demand3 m base lent list source goal (length steps / 6) r
+    refused-keeps = refused-promise (rw is at refused)
+
+  -- build accepts
   module _ (accepted : number ≤ 0) where
     pub accepted-answer : 0 ≡ buildNumber m base lent
     accepted-answer = sym (none accepted) ∙ is
 
+    -- `first` is the store that it leaves
     module _ {first : List ℕ} (built : first ≡ buildInto m base lent) where
       pub reached-store : {st : List ℕ} → st ≡ storeAfter first list → st ≡ journeyInto m base lent list
       unfolding journeyInto ifAccepted
@@ -127,42 +142,22 @@ module _ (m : Measures) (base lent : List ℕ) (list : List Call) (steps : List 
       unfolding reachSteps ifAccepted
       reached-steps e = e ∙ rw (← accepted-answer, built)
 
+    -- `st` with `used` is what the calls leave of store and step list
+    module _ {st : List ℕ} (made : st ≡ journeyInto m base lent list) where
+      pub asked-answer : (used : List ℕ) {r : Routed} → r ≡ routeAnswer st source goal (length used / 6) → length used ≡ length steps
+          → r ≡ journeyAnswer m base lent list source goal (length steps / 6)
+      unfolding journeyAnswer journeyInto ifAccepted
+      asked-answer used e same = e ∙ rw (made, ← accepted-answer, same)
+
+      pub asked-steps : {used out : List ℕ} → used ≡ reachSteps m base lent list steps → out ≡ routeFlat st source goal used → out ≡ journeySteps m base lent list source goal steps
+      unfolding journeySteps journeyInto reachSteps ifAccepted
+      asked-steps u e = e ∙ rw (u, made, ← accepted-answer)
+
+pub asked-keeps : {m : Measures} {base lent : List ℕ} {list : List Call} {st : List ℕ} {source goal : ℕ} (steps used : List ℕ) {r : Routed}
+    → Reaches m base lent list st → ClaimsReached st source goal (length used / 6) r → length used ≡ length steps
+    → Demand3 m base lent list source goal (length steps / 6) r
+asked-keeps steps used there last same = rw (← same) (parts-promise there last)
+
 pub ruleset reaching = (refused-store, refused-steps, accepted-answer, reached-store, reached-steps)
-
--- ---- the last route call
-module _ (m : Measures) (base lent : List ℕ) (list : List Call) (steps : List ℕ) (source goal : ℕ) {number : ℕ} (is : number ≡ buildNumber m base lent) where
-  module _ (refused : 0 < number) where
-    pub refused-answer : Refused number ≡ journeyAnswer m base lent list source goal (length steps / 6)
-    unfolding journeyAnswer
-    refused-answer = rw (← is) (not-accepted number (routeAnswer (storeAfter (buildInto m base lent) list) source goal (length steps / 6)) (Refused number) refused)
-
-    pub refused-last : {out : List ℕ} → out ≡ reachSteps m base lent list steps → out ≡ journeySteps m base lent list source goal steps
-    unfolding journeySteps
-    refused-last e = e ∙ sym (refused-steps m base lent list steps is refused) ∙ kept
-      where
-        kept : steps ≡ ifAccepted (buildNumber m base lent) (routeFlat (storeAfter (buildInto m base lent) list) source goal (stepsAfter (buildInto m base lent) list steps)) steps
-        kept = rw (← is) (not-accepted number (routeFlat (storeAfter (buildInto m base lent) list) source goal (stepsAfter (buildInto m base lent) list steps)) steps refused)
-
-    pub refused-keeps : {r : Routed} → Demand3 m base lent list source goal (length steps / 6) r
-    refused-keeps = refused-promise (rw is at refused)
-
-  -- build accepts: `st` with `used` is what the calls leave of store and step list
-  module _ (accepted : number ≤ 0) {st : List ℕ} (made : st ≡ journeyInto m base lent list) where
-    build-0 : buildNumber m base lent ≡ 0
-    build-0 = sym is ∙ none accepted
-
-    pub asked-answer : (used : List ℕ) {r : Routed} → r ≡ routeAnswer st source goal (length used / 6) → length used ≡ length steps
-        → r ≡ journeyAnswer m base lent list source goal (length steps / 6)
-    unfolding journeyAnswer journeyInto ifAccepted
-    asked-answer used e same = e ∙ rw (made, build-0, same)
-
-    pub asked-steps : {used out : List ℕ} → used ≡ reachSteps m base lent list steps → out ≡ routeFlat st source goal used → out ≡ journeySteps m base lent list source goal steps
-    unfolding journeySteps journeyInto reachSteps ifAccepted
-    asked-steps u e = e ∙ rw (u, made, build-0)
-
-  pub asked-keeps : (used : List ℕ) {st : List ℕ} {r : Routed}
-      → Reaches m base lent list st → ClaimsReached st source goal (length used / 6) r → length used ≡ length steps
-      → Demand3 m base lent list source goal (length steps / 6) r
-  asked-keeps used there last same = rw (← same) (parts-promise there last)
 
 pub ruleset journeying = (refused-answer, refused-last, refused-keeps, asked-answer, asked-steps, asked-keeps)

@@ -84,9 +84,9 @@ pub fn route_after(
     ensures steps { λ _. ⌜ now (steps .exit) ≡ journeySteps (measuresOf columns rows scale) (now (base .entry)) (now (st .entry)) (callsIn (length (now (steps .entry)) / 6) (now (calls .entry))) source goal (now (steps .entry)) ⌝ }
     ensures demand3 { λ r. ⌜ Demand3 (measuresOf columns rows scale) (now (base .entry)) (now (st .entry)) (callsIn (length (now (steps .entry)) / 6) (now (calls .entry))) source goal (length (now (steps .entry)) / 6) r ⌝ }
 {
-    let number = reach(columns, rows, scale, base, calls, st, steps);
-    if 0 < number {
-        return Routed::Refused(number);
+    let refusal = reach(columns, rows, scale, base, calls, st, steps);
+    if 0 < refusal {
+        return Routed::Refused(refusal);
     }
     route_reached(st, source, goal, steps)
 }

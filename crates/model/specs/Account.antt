@@ -57,7 +57,8 @@ unfoldable pub borderMoves : ℕ → List ℕ → List BorderMove
 borderMoves x [] = []
 borderMoves x (z ∷ rest) = pick (eqb (sectorOf x) (sectorOf z)) (borderMoves z rest) (record { from = x; to = z } ∷ borderMoves z rest)
 
--- a walk from x to y of n moves, "its cells less one", which are these over a border, k in number; Allowed says which moves over a border a walk may make
+-- A walk from x to y: n is its moves, "its cells less one", and `over` those of them over a border, in order, k in number.
+-- Allowed says which moves over a border a walk may make.
 pub record WalkBy (Allowed : BorderMove → Type 0) (a : Account) (x y n : ℕ) (over : List BorderMove) : Type 0 where
   pub next : List ℕ
   pub goes : Along (a .measures) (accountCosts a) x next y
