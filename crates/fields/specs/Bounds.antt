@@ -13,25 +13,16 @@ bytes-product {a} {b} p q =
     let b' : b ≤ 255 = omega arith in
     omega (arith, mul-le-mul a' b')
 
-pub eastward-small : (d : CompassDir) → eastward d ≤ 2
-eastward-small North = omega arith
-eastward-small East = omega arith
-eastward-small South = omega arith
-eastward-small West = omega arith
-eastward-small NorthEast = omega arith
-eastward-small SouthEast = omega arith
-eastward-small SouthWest = omega arith
-eastward-small NorthWest = omega arith
-
-pub southward-small : (d : CompassDir) → southward d ≤ 2
-southward-small North = omega arith
-southward-small East = omega arith
-southward-small South = omega arith
-southward-small West = omega arith
-southward-small NorthEast = omega arith
-southward-small SouthEast = omega arith
-southward-small SouthWest = omega arith
-southward-small NorthWest = omega arith
+-- what a step does to column and to row
+pub steps-small : (d : CompassDir) → (eastward d ≤ 2) × (southward d ≤ 2)
+steps-small North = omega arith
+steps-small East = omega arith
+steps-small South = omega arith
+steps-small West = omega arith
+steps-small NorthEast = omega arith
+steps-small SouthEast = omega arith
+steps-small SouthWest = omega arith
+steps-small NorthWest = omega arith
 
 -- at most nine steps, of at most one place each, end less than twenty places on
 pub stepped-small : (c e n : ℕ) → c ≤ 9 → e ≤ 2 → n ≤ 9 → stepped c e n < 30

@@ -21,7 +21,7 @@ use Rattle.model.specs.Directions.{eastward, southward, stepped, landing, onAxi
 use Rattle.model.specs.Nearby.{on-axis}
 use Rattle.model.specs.SectorSides.{sector-is}
 use Rattle.model.specs.Scaling.{isWall}
-use Rattle.fields.specs.Bounds.{eastward-small, southward-small, stepped-small}
+use Rattle.fields.specs.Bounds.{steps-small, stepped-small}
 use Rattle.model.specs.Accepted.{Accepted}
 use Rattle.sector_cost.specs.Lines.{onLine}
 
@@ -104,10 +104,10 @@ module _ (m : Measures) (s : ℕ) (ok : Accepted m) (on : s < sectors m) where
     y = stepped (i / 10) (southward d) k
 
     x-small : x < 30
-    x-small = stepped-small (i % 10) (eastward d) k (omega arith) (eastward-small d) few
+    x-small = stepped-small (i % 10) (eastward d) k (omega arith) (steps-small d .0) few
 
     y-small : y < 30
-    y-small = stepped-small (i / 10) (southward d) k (omega arith) (southward-small d) few
+    y-small = stepped-small (i / 10) (southward d) k (omega arith) (steps-small d .1) few
 
     sum : spot (corner m s) i + k * stride d ≡ (rowOf m s * 10 + y) * 120 + (columnOf m s * 10 + x) + 121 * k
     unfolding corner

@@ -14,7 +14,7 @@ use Rattle.model.specs.declared.CompassDir.{CompassDir}
 use Rattle.model.specs.Sectors.{sectors}
 use Rattle.model.specs.Directions.{compass, eastward, southward, stepped, landing}
 use Rattle.model.specs.Scaling.{passes, blockStep, blockPassed, walk}
-use Rattle.fields.specs.Bounds.{eastward-small, southward-small, landing-index}
+use Rattle.fields.specs.Bounds.{steps-small, landing-index}
 use Rattle.sector_cost.specs.Costs.{Costs, costs-again}
 use Rattle.sector_cost.specs.Lines.{Line, blockedOn}
 use Rattle.sector_cost.specs.Board.{boardOf, board-long, corner, corner-high, spot, stride, line-low, line-high, wall-shown, board-set}
@@ -69,8 +69,8 @@ turned-none i d cell = record { column = axis-none (i % 10) (eastward d) (omega 
 
 pub turned-more : {i : ℕ} {d : CompassDir} {k x y x' y' : ℕ} → i < 100 → k < 9 → Turned i d k x y → x' ≡ (x + 9 + eastward d) % 10 → y' ≡ (y + 9 + southward d) % 10 → Turned i d (k + 1) x' y'
 turned-more {i} {d} {k} cell few h across down = record {
-  column = across ∙ turn-axis (i % 10) (eastward d) k (omega arith) (eastward-small d) few (h .column);
-  row = down ∙ turn-axis (i / 10) (southward d) k (omega arith) (southward-small d) few (h .row);
+  column = across ∙ turn-axis (i % 10) (eastward d) k (omega arith) (steps-small d .0) few (h .column);
+  row = down ∙ turn-axis (i / 10) (southward d) k (omega arith) (steps-small d .1) few (h .row);
 }
 
 -- the place of the cell passed at step k + 1 becomes a wall

@@ -3,7 +3,7 @@ use Prim.Native.Nat.{suc, _-_}
 use native.Mathlib.Omega.{arith}
 use mathlib.Core.Path.{_≡_, sym, ap}
 use Rattle.model.specs.Change.{isThere}
-use Rattle.fields.specs.Bounds.{eastward-small, southward-small}
+use Rattle.fields.specs.Bounds.{steps-small}
 use borrow.Author.Needs.{needs}
 use Rattle.sector_cost.proofs.nearby.is_there.Statement.{statement}
 use Rattle.sector_cost.proofs.nearby.is_there.Tie as tie
@@ -25,7 +25,7 @@ southward-requires : tie.Need-southward-requires
 southward-requires c κs = search needs
 
 on-floor-requires : tie.Need-on-floor-requires
-on-floor-requires c κs = let e = eastward-small (c .before .before .compass .result) in let f = southward-small (c .before .before .compass .result) in search needs
+on-floor-requires c κs = let e = steps-small (c .before .before .compass .result) in search needs
 
 returns-2 : tie.Need-returns-2
 unfolding isThere

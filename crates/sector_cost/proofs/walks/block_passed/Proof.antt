@@ -4,7 +4,7 @@ use native.Mathlib.Omega.{arith}
 use mathlib.Core.Path.{_∙_}
 use Rattle.laws.specs.Fold.{Ran, ran-turn, counting}
 use Rattle.model.specs.Scaling.{blockStep}
-use Rattle.fields.specs.Bounds.{eastward-small, southward-small}
+use Rattle.fields.specs.Bounds.{steps-small}
 use Rattle.sector_cost.specs.Walks.{Turned, turned-none, turned-more, blockSpot, step-is, spot-is}
 use borrow.Author.Needs.{needs}
 use Rattle.sector_cost.proofs.walks.block_passed.Statement.{statement}
@@ -32,7 +32,7 @@ turned-requires : tie.Need-turned-requires Inv-loop μ-loop
 turned-requires c κs =
     let l = c .before .before in
     let h = l .loop .inv .2 in
-    let small = eastward-small (l .before .before .before .args .d) in
+    let small = steps-small (l .before .before .before .args .d) in
     (omega (arith, h .column), omega (arith, c .eastward .ensures))
 
 southward-requires : tie.Need-southward-requires Inv-loop μ-loop
@@ -42,7 +42,7 @@ turned-requires-2 : tie.Need-turned-requires-2 Inv-loop μ-loop
 turned-requires-2 c κs =
     let l = c .before .before .before .before in
     let h = l .loop .inv .2 in
-    let small = southward-small (l .before .before .before .args .d) in
+    let small = steps-small (l .before .before .before .args .d) in
     (omega (arith, h .row), omega (arith, c .southward .ensures))
 
 block-cell-requires : tie.Need-block-cell-requires Inv-loop μ-loop

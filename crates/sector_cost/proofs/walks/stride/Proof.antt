@@ -1,5 +1,5 @@
 -- `stride` is at most 242, so that no sum with it wraps.
-use Rattle.fields.specs.Bounds.{eastward-small, southward-small}
+use Rattle.fields.specs.Bounds.{steps-small}
 use borrow.Author.Needs.{needs}
 use Rattle.sector_cost.proofs.walks.stride.Statement.{statement}
 use Rattle.sector_cost.proofs.walks.stride.Tie as tie
@@ -11,18 +11,16 @@ southward-requires : tie.Need-southward-requires
 southward-requires c κs = search needs
 
 mul-result : tie.Need-mul-result
-mul-result c = let f = southward-small (c .before .before .args .d) in search needs
+mul-result c = let f = steps-small (c .before .before .args .d) in search needs
 
 add-result : tie.Need-add-result
 add-result c =
-    let e = eastward-small (c .before .before .args .d) in
-    let f = southward-small (c .before .before .args .d) in
+    let e = steps-small (c .before .before .args .d) in
     search needs
 
 returns : tie.Need-returns
 returns c =
-    let e = eastward-small (c .before .before .args .d) in
-    let f = southward-small (c .before .before .args .d) in
+    let e = steps-small (c .before .before .args .d) in
     search needs
 
 pub stride-spec : {M : Type 1} → statement M
