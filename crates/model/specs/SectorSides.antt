@@ -4,15 +4,15 @@ use native.Mathlib.Nat.{div-add-mod', mod-lt, mod-eq-of-lt, div-eq-of-lt, add-di
 use native.Mathlib.Decide.{ℕ-discrete}
 use native.Mathlib.Omega.{arith}
 use mathlib.Core.Path.{_≡_, refl, sym, ap, ap₂, _∙_}
-use mathlib.Core.Logic.{_↔_, _≢_}
-use mathlib.Core.Bool.{true}
+use mathlib.Core.Logic.{_↔_, _⊎_, inl, inr, _≢_}
+use mathlib.Core.Bool.{Bool, true, false, false≢true}
 use borrow.Author.Tests.{ltb-true, lt-ltb, leb-true, le-leb}
 use Rattle.model.specs.declared.Measures.{Measures}
 use Rattle.model.specs.declared.Side.{Side}
 use Rattle.model.specs.declared.Side.the-variants.{North, East, South, West}
 use Rattle.model.specs.Cells.{cellAt, opposite}
 use Rattle.model.specs.Sectors.{sectors, sectorNumber, columnOf, rowOf, floorNumber, sectorOf, placeOf, across, down, beyond, hasBeyond}
-use Rattle.model.specs.Sides.{Axis, Column, Row, other, axis, sense, Room, moved, next-same, next-other, next-moved, next-room, Over, over-back}
+use Rattle.model.specs.Sides.{Axis, Column, Row, other, axis, sense, last, Room, moved, next-same, next-other, next-moved, next-room, room-or-last, last-none, Over, over-back}
 use Rattle.model.specs.CellSides.{cellOn}
 
 -- the places of a sector
@@ -20,12 +20,12 @@ abbrev pub sectorOn : Measures → ℕ → Axis → ℕ
 sectorOn m s Column = columnOf m s
 sectorOn m s Row = rowOf m s
 
-abbrev wide : Measures → Axis → ℕ
+abbrev pub wide : Measures → Axis → ℕ
 wide m Column = m .columns
 wide m Row = m .rows
 
 -- the sector at place x of an axis and place y of the other
-abbrev sectorBy : Measures → Axis → ℕ → ℕ → ℕ
+abbrev pub sectorBy : Measures → Axis → ℕ → ℕ → ℕ
 sectorBy m Column x y = sectorNumber m x y
 sectorBy m Row x y = sectorNumber m y x
 
@@ -37,7 +37,7 @@ has-rows m s l = go (ℕ-discrete (m .rows) 0)
     go (yes e) = absurd (omega (arith, ap (λ (r : ℕ). m .columns * r) e))
     go (no e) = omega arith
 
-sector-low : (m : Measures) (s : ℕ) → s < sectors m → (a : Axis) → sectorOn m s a < wide m a
+pub sector-low : (m : Measures) (s : ℕ) → s < sectors m → (a : Axis) → sectorOn m s a < wide m a
 sector-low m s l Column = div-lt-iff-lt-mul (has-rows m s l) .1 l
 sector-low m s l Row = mod-lt s (has-rows m s l)
 
@@ -57,12 +57,12 @@ sector-on : (m : Measures) (c r : ℕ) → c < m .columns → r < m .rows → se
 sector-on m c r l h = div-lt-iff-lt-mul {k = m .rows} {y = m .columns} (omega arith) .0 (rw (sector-is m c r h .0) l)
 
 -- and by a place on an axis and one on the other
-record By (m : Measures) (a : Axis) (x y s : ℕ) : Type 0 where
+pub record By (m : Measures) (a : Axis) (x y s : ℕ) : Type 0 where
   pub on : s < sectors m
-  along : sectorOn m s a ≡ x
-  level : sectorOn m s (other a) ≡ y
+  pub along : sectorOn m s a ≡ x
+  pub level : sectorOn m s (other a) ≡ y
 
-sector-by : (m : Measures) (a : Axis) (x y : ℕ) → x < wide m a → y < wide m (other a) → By m a x y (sectorBy m a x y)
+pub sector-by : (m : Measures) (a : Axis) (x y : ℕ) → x < wide m a → y < wide m (other a) → By m a x y (sectorBy m a x y)
 sector-by m Column x y l h = record { on = sector-on m x y l h; along = sector-is m x y h .0; level = sector-is m x y h .1 }
 sector-by m Row x y l h = record { on = sector-on m y x h l; along = sector-is m y x l .1; level = sector-is m y x l .0 }
 
@@ -97,6 +97,21 @@ module _ (m : Measures) (s : ℕ) (on : s < sectors m) where
       less : (c : ℕ) → 0 < c → c * m .rows + s % m .rows ≡ s → s - m .rows ≡ (c - 1) * m .rows + s % m .rows
       less zero l e = absurd (omega arith)
       less (suc c) l e = let z : suc c - 1 ≡ c = omega arith in rw z (omega arith)
+
+  -- a sector is without one exactly at its end of the floor
+  pub at-end : (k : Side) → (hasBeyond m s k ≡ false) ↔ (sectorOn m s (axis k) ≡ last (sense k) (wide m (axis k)))
+  at-end k = (
+    λ e. there e (room-or-last (sense k) (wide m (axis k)) (sectorOn m s (axis k)) (sector-low m s on (axis k))),
+    λ q. back (hasBeyond m s k) refl q,
+  )
+    where
+      there : hasBeyond m s k ≡ false → Room (sense k) (wide m (axis k)) (sectorOn m s (axis k)) ⊎ (sectorOn m s (axis k) ≡ last (sense k) (wide m (axis k))) → sectorOn m s (axis k) ≡ last (sense k) (wide m (axis k))
+      there e (inl r) = absurd (false≢true (sym e ∙ has-room k .1 r))
+      there e (inr q) = q
+
+      back : (t : Bool) → hasBeyond m s k ≡ t → sectorOn m s (axis k) ≡ last (sense k) (wide m (axis k)) → t ≡ false
+      back true e q = absurd (last-none (sense k) (wide m (axis k)) (sectorOn m s (axis k)) q (has-room k .0 e))
+      back false e q = refl
 
   -- what lies beyond is one on over the side, and nothing else is
   pub is-beyond : (k : Side) (t : ℕ) → t < sectors m → Over k (sectorOn m s) (sectorOn m t) → (hasBeyond m s k ≡ true) × (beyond m s k ≡ t)

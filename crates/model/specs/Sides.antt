@@ -121,6 +121,10 @@ room-or-last Higher n x l = go (ℕ-discrete x (n - 1))
     go (yes q) = inr q
     go (no q) = inl (omega arith)
 
+pub last-none : (e : Sense) (n x : ℕ) → x ≡ last e n → Room e n x → ⊥
+last-none Lower n x q r = omega arith
+last-none Higher n x q r = omega arith
+
 -- numbers of two digits, the lower below 10: one on with the same higher digit, and with another
 pub next-digit : (e : Sense) (a c d : ℕ) → Next e c d ↔ Next e (a * 10 + c) (a * 10 + d)
 next-digit Lower a c d = ((λ h. omega arith), (λ h. omega arith))
