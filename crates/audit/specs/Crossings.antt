@@ -75,19 +75,22 @@ module _ (m : Measures) (costs : List ℕ) (sized : length costs ≡ cells m) wh
   pub cross-leaving : (x y : ℕ) → floorOf m costs .Cross x y → Leaving m x y
   cross-leaving x y c = go (share-over m x y (c .side) .0) (share-over m x y (c .side) .1)
     where
-      low : (n : ℕ) → n % 100 < 100
-      low n = omega arith
+      low : (n : ℕ) (a : Axis) → cellOn (cellAt (placeOf n)) a < 10
+      low n a = cell-low a (placeOf n) (omega arith)
 
       go : (k : Side) → Over k (floorOn m x) (floorOn m y) → Leaving m x y
       go k o =
           let on = open-sector x (c .leaves) in
           let a : Axis = axis k in
           let b : Axis = other (axis k) in
-          let u = level (sectorOn m (sectorOf x) b) (sectorOn m (sectorOf y) b) (cellOn (cellAt (placeOf x)) b) (cellOn (cellAt (placeOf y)) b) (cell-low b (placeOf x) (low x)) (cell-low b (placeOf y) (low y)) (rw (floor-is m x b, floor-is m y b) at (o .stays)) in
-          let v = next-carry (sense k) {a = sectorOn m (sectorOf x) a} {b = sectorOn m (sectorOf y) a} (cell-low a (placeOf x) (low x)) (cell-low a (placeOf y) (low y)) (λ q. c .kind .0 (same-sector m a (sectorOf x) (sectorOf y) q (u .0))) (rw (floor-is m x a, floor-is m y a) at (o .moves)) in
+          let p : Axis → ℕ = sectorOn m (sectorOf x) in
+          let q : Axis → ℕ = sectorOn m (sectorOf y) in
+          let u = level (p b) (q b) _ _ (low x b) (low y b) (rw (floor-is m x b, floor-is m y b) at (o .stays)) in
+          let apart : p a ≢ q a = λ e. c .kind .0 (same-sector m a (sectorOf x) (sectorOf y) e (u .0)) in
+          let v = next-carry (sense k) {a = p a} {b = q a} (low x a) (low y a) apart (rw (floor-is m x a, floor-is m y a) at (o .moves)) in
           let there = is-beyond m (sectorOf x) on k (sectorOf y) (open-sector y (c .enters)) (record { moves = v .0; stays = u .0 }) in
           let at : ℕ = cellOn (cellAt (placeOf x)) b in
-          let low-at : at < 10 = cell-low b (placeOf x) (low x) in
+          let low-at : at < 10 = low x b in
           let own : placeOf x ≡ border k at = is-border a (placeOf x) (on-border k at low-at) (v .1) refl in
           let facing : placeOf y ≡ border (opposite k) at = is-border a (placeOf y) (facing-border k at low-at) (v .2) (sym (u .1)) in
           record {

@@ -105,7 +105,8 @@ module _ (m : Measures) (s : ℕ) (on : s < sectors m) where
     λ q. back (hasBeyond m s k) refl q,
   )
     where
-      there : hasBeyond m s k ≡ false → Room (sense k) (wide m (axis k)) (sectorOn m s (axis k)) ⊎ (sectorOn m s (axis k) ≡ last (sense k) (wide m (axis k))) → sectorOn m s (axis k) ≡ last (sense k) (wide m (axis k))
+      there : hasBeyond m s k ≡ false → Room (sense k) (wide m (axis k)) (sectorOn m s (axis k)) ⊎ (sectorOn m s (axis k) ≡ last (sense k) (wide m (axis k)))
+          → sectorOn m s (axis k) ≡ last (sense k) (wide m (axis k))
       there e (inl r) = absurd (false≢true (sym e ∙ has-room k .1 r))
       there e (inr q) = q
 

@@ -1,4 +1,5 @@
--- A side as an axis and a sense: what it does to column and to row. CellSides and SectorSides bring the definitions of 01 to this form, side by side; every other fact about sides has the side as a parameter and goes by axis and sense.
+-- A side as an axis and a sense: what it does to column and to row. CellSides and SectorSides bring the definitions of 01 to this form, side by side.
+-- Every other fact about sides has the side as a parameter and goes by axis and sense.
 use Prim.Native.Nat.{ℕ, zero, suc, _+_, _-_, _*_, _<_}
 use native.Mathlib.Decide.{ℕ-discrete}
 use native.Mathlib.Omega.{arith}

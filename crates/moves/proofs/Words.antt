@@ -64,7 +64,8 @@ module _ (row : ℕ → ℕ) (small : (y : ℕ) → row y < 1024) where
             omega (arith, o .either, more .1 (omega arith), off),
       )
     where
-      inside : {b : ℕ} → (y < n) ⊎ (n ≤ y) → y < suc n → (y < n → bitAt (packed row n) (y * 11 + x) ≡ bitAt (row y) x) → (n ≤ y → bitAt (packed row n) (y * 11 + x) ≡ 0) → bitAt (packed row n) (y * 11 + x) ≤ b
+      inside : {b : ℕ} → (y < n) ⊎ (n ≤ y) → y < suc n → (y < n → bitAt (packed row n) (y * 11 + x) ≡ bitAt (row y) x)
+          → (n ≤ y → bitAt (packed row n) (y * 11 + x) ≡ 0) → bitAt (packed row n) (y * 11 + x) ≤ b
           → bitAt (row n * 2 ^ (n * 11)) (y * 11 + x) ≤ b → b ≤ bitAt (packed row n) (y * 11 + x) + bitAt (row n * 2 ^ (n * 11)) (y * 11 + x) → b ≡ bitAt (row y) x
       inside (inl a) q f g u v w = omega (arith, f a, up-low (row n) (n * 11) (y * 11 + x) (omega arith))
       inside (inr a) q f g u v w =
@@ -190,7 +191,8 @@ line-over East i j o = omega arith
 line-over South i j o = omega arith
 line-over West i j o = omega arith
 
-line-end : (k : Side) (i : ℕ) → i < 100 → cellOn (cellAt i) (axis k) ≡ last (sense k) 10 → Past (sense k) (reach (axis k)) (onLine i) ⊎ ((q : ℕ) × (q < 110) × (q % 11 ≡ 10) × On (sense k) (reach (axis k)) (onLine i) q)
+line-end : (k : Side) (i : ℕ) → i < 100 → cellOn (cellAt i) (axis k) ≡ last (sense k) 10
+    → Past (sense k) (reach (axis k)) (onLine i) ⊎ ((q : ℕ) × (q < 110) × (q % 11 ≡ 10) × On (sense k) (reach (axis k)) (onLine i) q)
 line-end North i l e = inl (omega arith)
 line-end East i l e = inr (onLine i + 1, omega arith, omega arith, refl)
 line-end South i l e = inl (omega arith)
@@ -239,7 +241,9 @@ module _ (l : List ℕ) (d : ℕ) (out : (h k : ℕ) → h < 2 → Out k → bit
     where
       go : (s < 55 - u) ⊎ (55 - u ≤ s) → bitAt (wordAt l d 0 / 2 ^ u) s + bitAt (wordAt l d 1 * 2 ^ (55 - u)) s ≡ lineBit q
       go (inl f) = omega (arith, up-low (wordAt l d 1) (55 - u) s f, down 0 u s q (omega arith), place 0 q q (omega arith) (omega arith))
-      go (inr f) = omega (arith, down 0 u s (u + s) refl, high 0 (u + s) (omega arith) (omega arith), up 1 (55 - u) (s - (55 - u)) s (omega arith), place 1 (s - (55 - u)) q (omega arith) (omega arith))
+      go (inr f) =
+          let r : ℕ = s - (55 - u) in
+          omega (arith, down 0 u s (u + s) refl, high 0 (u + s) (omega arith) (omega arith), up 1 (55 - u) r s (omega arith), place 1 r q (omega arith) (omega arith))
   shifted-there Higher u (suc zero) s q a b c w o = omega (arith, down 1 u s (s + u) (omega arith), place 1 (s + u) q (omega arith) (omega arith))
   shifted-there Higher u (suc (suc h)) s q a b c w o = absurd (omega arith)
 
@@ -339,7 +343,8 @@ pub record NextBit (n cell own : ℕ) (side : Side → ℕ) : Type 0 where
   pub kept : own + cell ≤ n + 1
   pub gained : (s : Side) → side s ≡ 1 → cell ≤ n
 
-pub by-side : {n cells word across k : ℕ} (from : Sense → ℕ) → GrownBit n cells word across k → bitAt across k ≡ from Lower + from Higher → NextBit (bitAt n k) (bitAt cells k) (bitAt word k) (sides word k from)
+pub by-side : {n cells word across k : ℕ} (from : Sense → ℕ) → GrownBit n cells word across k → bitAt across k ≡ from Lower + from Higher
+    → NextBit (bitAt n k) (bitAt cells k) (bitAt word k) (sides word k from)
 by-side from b e = record { only = b .only; some = omega (arith, b .some); kept = b .own; gained = λ s q. omega (arith, b .near s, b .beyond, part (axis s) (sense s)) }
   where
     part : (a : Axis) (e : Sense) → over a (from e) ≤ from Lower + from Higher
@@ -356,7 +361,9 @@ pub packed-more : (row : ℕ → ℕ) (y : ℕ) {word r : ℕ} → word ≡ pack
 unfolding packed
 packed-more row y e f small l = rw (add-one y, e, f, shl-exact 10 (y * 11) 64 small (omega arith)) refl
 
-pub grown-is : (words l₀ : List ℕ) (d : ℕ) {a b : ℕ} → d * 2 + 3 < length l₀ → a ≡ grownWord (getD words 0 0) (getD l₀ (d * 2) 0) (getD l₀ (d * 2 + 1) 0 * 2 ^ 44 % 2 ^ 64) → b ≡ grownWord (getD words 1 0) (getD l₀ (d * 2 + 1) 0) (getD l₀ (d * 2) 0 / 2 ^ 44)
+pub grown-is : (words l₀ : List ℕ) (d : ℕ) {a b : ℕ} → d * 2 + 3 < length l₀
+    → a ≡ grownWord (getD words 0 0) (getD l₀ (d * 2) 0) (getD l₀ (d * 2 + 1) 0 * 2 ^ 44 % 2 ^ 64)
+    → b ≡ grownWord (getD words 1 0) (getD l₀ (d * 2 + 1) 0) (getD l₀ (d * 2) 0 / 2 ^ 44)
     → Grown words d l₀ (set (set l₀ (d * 2 + 2) a) (d * 2 + 3) b) (bitOr (bitXor a (getD l₀ (d * 2) 0)) (bitXor b (getD l₀ (d * 2 + 1) 0)))
 grown-is words l₀ d {a} {b} h e f = record {
   long = length-set (set l₀ (d * 2 + 2) a) (d * 2 + 3) b ∙ length-set l₀ (d * 2 + 2) a;

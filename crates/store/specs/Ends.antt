@@ -85,7 +85,8 @@ module _ {m : Measures} (h : Accepted m) (k : Side) where
       (i, sector-low m s l (other (axis k)), same-sector m (axis k) (sectorIn (endLine m k) i) s (b .along ∙ sym (at-end m s l k .0 e)) (b .level))
 
 -- as the check makes and takes it
-pub line-is : (m : Measures) (k : Side) {from step count : ℕ} → from ≡ endLine m k .from → step ≡ endLine m k .step → count ≡ endLine m k .count → _≡_ {A = EndLine} (record { from = from; step = step; count = count }) (endLine m k)
+pub line-is : (m : Measures) (k : Side) {from step count : ℕ} → from ≡ endLine m k .from → step ≡ endLine m k .step → count ≡ endLine m k .count
+    → _≡_ {A = EndLine} (record { from = from; step = step; count = count }) (endLine m k)
 line-is m k p q r = λ i. record { from = p i; step = q i; count = r i }
 
 abbrev pub Within : Measures → EndLine → Type 0
@@ -94,7 +95,8 @@ Within m line = (i : ℕ) → i < line .count → sectorIn line i < sectors m
 pub end-within : {m : Measures} → Accepted m → (k : Side) {line : EndLine} → line ≡ endLine m k → Within m line
 end-within h k e = rw e (λ i l. end-by h k i l .on)
 
-pub side-found : (m : Measures) (marks : List ℕ) (n : ℕ) {side : Side} {line : EndLine} {r : Bool} → side ≡ sideAt n → line ≡ endLine m side → r ≡ any (lineMark marks line n) (line .count) → r ≡ sideEnds m marks n
+pub side-found : (m : Measures) (marks : List ℕ) (n : ℕ) {side : Side} {line : EndLine} {r : Bool} → side ≡ sideAt n → line ≡ endLine m side
+    → r ≡ any (lineMark marks line n) (line .count) → r ≡ sideEnds m marks n
 side-found m marks n p q r = r ∙ ap (λ (line : EndLine). any (lineMark marks line n) (line .count)) (q ∙ ap (endLine m) p)
 
 module _ (m : Measures) (marks : List ℕ) (h : Accepted m) where
@@ -112,9 +114,10 @@ module _ (m : Measures) (marks : List ℕ) (h : Accepted m) where
   found n l true q e = or-left large ends (any-has (isAbove marks 1023) (sectors m * 4) n l e)
   found n l false q e =
       let t = none-end h (sideAt (n % 4)) (n / 4) (omega arith) q in
+      let line : EndLine = endLine m (sideAt (n % 4)) in
       let at : n ≡ sectorIn (endLine m (sideAt (n % 4))) (t .0) * 4 + n % 4 = omega (arith, t .2) in
-      or-right large ends
-      (any-has (sideEnds m marks) 4 (n % 4) (omega arith) (any-has (lineMark marks (endLine m (sideAt (n % 4))) (n % 4)) (endLine m (sideAt (n % 4)) .count) (t .0) (t .1) (ap (isAbove marks 0) (sym at) ∙ e)))
+      let hit : sideEnds m marks (n % 4) ≡ true = any-has (lineMark marks line (n % 4)) (line .count) (t .0) (t .1) (ap (isAbove marks 0) (sym at) ∙ e) in
+      or-right large ends (any-has (sideEnds m marks) 4 (n % 4) (omega arith) hit)
 
   -- and the other way round
   large-bad : (n : ℕ) → n < sectors m * 4 → isAbove marks 1023 n ≡ true → bad ≡ true

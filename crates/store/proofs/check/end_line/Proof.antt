@@ -41,7 +41,9 @@ returns c = let s = c .before .before .before in rw (c .enum-told .given .1) (li
 
 returns-2 : tie.Need-returns-2
 unfolding endLine
-returns-2 c = let s = c .before .before .before in rw (c .enum-told2 .given .1, s .wide .ensures .0, c .before .before .wide2 .ensures .0) (line-is (s .before .args .m) East (omega arith) (omega arith) (omega arith))
+returns-2 c =
+    let s = c .before .before .before in
+    rw (c .enum-told2 .given .1, s .wide .ensures .0, c .before .before .wide2 .ensures .0) (line-is (s .before .args .m) East (omega arith) (omega arith) (omega arith))
 
 returns-3 : tie.Need-returns-3
 unfolding endLine
