@@ -1,5 +1,4 @@
-// The portal graph of a store: its edges and the least paths in it. Document 01, item 8, second part, and "Stand-in for petgraph".
+// The portal graph of a store: its portals, the moves to them, and its edges. Document 01, item 8, second part.
 pub mod edges;
 pub mod near;
-pub mod path;
 pub mod portals;

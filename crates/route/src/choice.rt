@@ -7,7 +7,7 @@ ghost use Rattle.laws.specs.FirstLeast.{Foremost};
 ghost use Rattle.model.specs.Portals.{sectorPortals, portalCount};
 ghost use Rattle.model.specs.LeastPath.{unlinked};
 ghost use Rattle.graph.specs.EdgeTable.{tableGraph};
-ghost use Rattle.graph.specs.Searching.{Searched};
+ghost use Rattle.search.specs.Searching.{Searched};
 ghost use Rattle.route.specs.Choosing.{runFor, pairRun};
 ghost use Rattle.route.specs.FirstPair.{placeRun};
 use graph::edges::KEY_STEP;

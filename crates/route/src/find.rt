@@ -7,7 +7,7 @@ ghost use Rattle.model.specs.Portals.{portalCount, arcCount, portalGraph};
 ghost use Rattle.model.specs.Route.{throughPortals, routeOf};
 ghost use Rattle.model.specs.Store.{decode};
 ghost use Rattle.graph.specs.EdgeTable.{Opened};
-ghost use Rattle.graph.specs.Following.{Linked};
+ghost use Rattle.search.specs.Following.{Linked};
 ghost use Rattle.route.specs.Finding.{foundAnswer, foundInto, lastRoute, Paired, pairRoute};
 use crate::choice::PAIRS;
 use crate::choice::choose_pair;
@@ -20,12 +20,12 @@ use graph::edges::KEY_STEP;
 use graph::edges::fill_edges;
 use graph::near::moves_to;
 use graph::near::portal_moves;
-use graph::path::least_path;
 use graph::portals::SECTOR_ARCS;
 use graph::portals::SECTOR_PORTALS;
 use model::Measures;
 use model::Routed;
 use search::keys::keys_to;
+use search::path::least_path;
 
 // The route of one step, to a goal at these moves in the same sector.
 fn one_step(m: Measures, goal: usize, moves: u8, list: &mut [u8]) -> Routed

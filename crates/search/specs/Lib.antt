@@ -1,3 +1,5 @@
+pub mod Searching
 pub mod Keys
 pub mod Turns
 pub mod Ends
+pub mod Following

@@ -14,7 +14,7 @@ use Rattle.model.specs.Sectors.{sectors}
 use Rattle.model.specs.Portals.{headOf}
 use Rattle.model.specs.PortalEdges.{head-other}
 use Rattle.graph.specs.EdgeTable.{bare, tableGraph}
-use Rattle.graph.specs.Searching.{Searched}
+use Rattle.search.specs.Searching.{Searched}
 
 -- the turn of number u is asked for: lists of keys and of those that wait, and a queue with room from `end` on
 pub record Asked (m : Measures) (table : List ℕ) (u keys wait queue end : ℕ) : Type 0 where

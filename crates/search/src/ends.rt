@@ -6,7 +6,7 @@ ghost use Rattle.laws.specs.Graph.{Graph, Sound, BothWays};
 ghost use Rattle.laws.specs.Starts.{Tried};
 ghost use Rattle.model.specs.Portals.{sectorPortals, portalCount};
 ghost use Rattle.graph.specs.EdgeTable.{tableGraph};
-ghost use Rattle.graph.specs.Searching.{Searched};
+ghost use Rattle.search.specs.Searching.{Searched};
 ghost use Rattle.search.specs.Ends.{endWeight, EndsBegun, Nearest};
 use crate::keys::collect;
 use crate::keys::fill_keys;

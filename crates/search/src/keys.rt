@@ -12,7 +12,7 @@ ghost use Rattle.laws.specs.Turns.{Turned, Lined};
 ghost use Rattle.model.specs.Portals.{sectorPortals, portalCount, arcCount, portalSector, arcTail};
 ghost use Rattle.model.specs.LeastPath.{unlinked, keysTo};
 ghost use Rattle.graph.specs.EdgeTable.{tableGraph};
-ghost use Rattle.graph.specs.Searching.{Searched};
+ghost use Rattle.search.specs.Searching.{Searched};
 ghost use Rattle.search.specs.Turns.{Offerless, Asked, Had};
 use graph::edges::UNLINKED;
 use graph::portals::SECTOR_PORTALS;

@@ -7,7 +7,7 @@ use denote.Ref.{now}
 use borrow.Author.Needs.{needs}
 use Rattle.laws.specs.FirstLeast.{foremost-within}
 use Rattle.model.specs.Sectors.{sectors}
-use Rattle.graph.specs.Searching.{searched-in}
+use Rattle.search.specs.Searching.{searched-in}
 use Rattle.route.specs.FirstPair.{no-start, first-pair}
 use Rattle.route.proofs.choice.choose_pair.Statement.{statement}
 use Rattle.route.proofs.choice.choose_pair.Tie as tie

@@ -4,7 +4,7 @@ use Prim.Native.Nat.{_≤_}
 use lib.ListN.{length, length-take}
 use denote.Ref.{now}
 use borrow.Author.Needs.{needs}
-use Rattle.graph.specs.Searching.{searched-in}
+use Rattle.search.specs.Searching.{searched-in}
 use Rattle.search.proofs.ends.keys_to_goal.Statement.{statement}
 use Rattle.search.proofs.ends.keys_to_goal.Tie as tie
 

@@ -9,7 +9,7 @@ use borrow.Author.Needs.{needs}
 use Rattle.model.specs.Sectors.{sectors}
 use Rattle.model.specs.LeastPath.{unlinked}
 use Rattle.laws.specs.Starts.{starts-extends, starts-none, starts-all, starts-over}
-use Rattle.graph.specs.Searching.{searched-in}
+use Rattle.search.specs.Searching.{searched-in}
 use Rattle.graph.specs.EdgeTable.{tableGraph}
 use Rattle.search.specs.Ends.{endAt, endCost, endsGraph, ends-nearest}
 use Rattle.search.proofs.ends.search_ends.Statement.{statement}

@@ -5,7 +5,7 @@ use lib.ListN.{getD}
 use denote.Ref.{now}
 use borrow.Author.Needs.{needs}
 use Rattle.model.specs.Sectors.{sectors}
-use Rattle.graph.specs.Searching.{skips, arrives, declines, accepts}
+use Rattle.search.specs.Searching.{skips, arrives, declines, accepts}
 use Rattle.search.proofs.keys.offer.Statement.{statement}
 use Rattle.search.proofs.keys.offer.Tie as tie
 

@@ -23,9 +23,9 @@ use Rattle.model.specs.LeastPath.{cellRank, nodeRank, unlinked, keysTo, leastPa
 use Rattle.model.specs.PortalEdges.{weight-low, head-portal, portal-sound}
 use Rattle.model.specs.LeastPathFirst.{portal-keyed, keys-settled}
 use Rattle.model.specs.Store.{decode}
 use Rattle.graph.specs.EdgeTable.{Opened, bare, edgeTable, tableGraph, length-table, table-graph, table-sound, table-both-ways}
 use Rattle.graph.specs.Reading.{measures-are, accepted-of, fits-of}
-use Rattle.graph.specs.Searching.{Searched}
+use Rattle.search.specs.Searching.{Searched}
 
 -- a store that passes the check, its measures, its filled table, and room for a key to each number
 pub record Linked (m : Measures) (st table : List ℕ) (keys : ℕ) : Type 0 where

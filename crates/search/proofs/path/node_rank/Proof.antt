@@ -8,10 +8,10 @@ use Rattle.model.specs.Windows.{borderCell}
 use Rattle.model.specs.Sides.{side-low}
 use Rattle.model.specs.LeastPath.{cellRank}
 use Rattle.model.specs.Store.{decode}
 use Rattle.graph.specs.Reading.{accepted-of, portal-sector}
-use Rattle.graph.specs.Following.{rank-is}
-use Rattle.graph.proofs.path.node_rank.Statement.{statement}
-use Rattle.graph.proofs.path.node_rank.Tie as tie
+use Rattle.search.specs.Following.{rank-is}
+use Rattle.search.proofs.path.node_rank.Statement.{statement}
+use Rattle.search.proofs.path.node_rank.Tie as tie
 
 abbrev S : tie.After-portal-run → tie.Start
 S c = c .before .before .before

@@ -2,10 +2,10 @@
 use native.Mathlib.Omega.{arith}
 use mathlib.Core.Logic.{⊎-elim}
 use borrow.Author.Needs.{needs}
 use Rattle.graph.specs.Reading.{accepted-of}
-use Rattle.graph.specs.Following.{better-none, better-some}
-use Rattle.graph.proofs.path.better.Statement.{statement}
-use Rattle.graph.proofs.path.better.Tie as tie
+use Rattle.search.specs.Following.{better-none, better-some}
+use Rattle.search.proofs.path.better.Statement.{statement}
+use Rattle.search.proofs.path.better.Tie as tie
 
 sectors-requires : tie.Need-sectors-requires
 sectors-requires c κs = search needs

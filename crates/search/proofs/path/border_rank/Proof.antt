@@ -1,8 +1,8 @@
 -- `border_rank` answers by the side: each return is that side's rule.
 use native.Mathlib.Omega.{arith}
 use borrow.Author.Needs.{needs}
-use Rattle.graph.proofs.path.border_rank.Statement.{statement}
-use Rattle.graph.proofs.path.border_rank.Tie as tie
+use Rattle.search.proofs.path.border_rank.Statement.{statement}
+use Rattle.search.proofs.path.border_rank.Tie as tie
 
 enum-told : tie.Need-enum-told
 enum-told c = search needs

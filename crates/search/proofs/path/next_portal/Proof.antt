@@ -9,10 +9,10 @@ use Rattle.laws.specs.FirstPath.{next}
 use Rattle.laws.specs.Tracing.{next-suc}
 use Rattle.model.specs.LeastPath.{nodeRank}
 use Rattle.model.specs.Store.{decode}
 use Rattle.graph.specs.EdgeTable.{tableGraph}
-use Rattle.graph.specs.Following.{Best, searched-of, next-begins, next-ends}
-use Rattle.graph.proofs.path.next_portal.Statement.{statement}
-use Rattle.graph.proofs.path.next_portal.Tie as tie
+use Rattle.search.specs.Following.{Best, searched-of, next-begins, next-ends}
+use Rattle.search.proofs.path.next_portal.Statement.{statement}
+use Rattle.search.proofs.path.next_portal.Tie as tie
 
 abbrev Inv-loop : tie.InvT-loop
 Inv-loop st m table keys u best₀ a₀ end best a = (u * 20 ≤ a) × (a ≤ u * 20 + 20) × (best ≡ next (tableGraph m table) (nodeRank (decode st)) keys u a) × Best m st best

@@ -10,10 +10,10 @@ use Rattle.model.specs.Sectors.{sectors}
 use Rattle.model.specs.Portals.{isPortal}
 use Rattle.model.specs.LeastPath.{nodeRank}
 use Rattle.model.specs.Store.{decode}
-use Rattle.graph.specs.Searching.{arrives}
-use Rattle.graph.specs.Following.{searched-of, leads-to, passes-by, too-short, not-exact, not-better, goes-there}
-use Rattle.graph.proofs.path.closer.Statement.{statement}
-use Rattle.graph.proofs.path.closer.Tie as tie
+use Rattle.search.specs.Searching.{arrives}
+use Rattle.search.specs.Following.{searched-of, leads-to, passes-by, too-short, not-exact, not-better, goes-there}
+use Rattle.search.proofs.path.closer.Statement.{statement}
+use Rattle.search.proofs.path.closer.Tie as tie
 
 -- the values, seen from the call of `head_of`
 abbrev S : tie.After-head-of → tie.Start

@@ -4,9 +4,9 @@ use Prim.Native.Nat.{_-_, _*_, _≤_, _<_}
 use lib.ListN.{length, length-set}
 use denote.Ref.{now}
 use Rattle.model.specs.Sectors.{sectors}
-use Rattle.graph.specs.Following.{Walked, searched-of, walk-begins, walk-at, walk-room, walk-long, walk-on, walk-ends}
-use Rattle.graph.proofs.path.least_path.Statement.{statement}
-use Rattle.graph.proofs.path.least_path.Tie as tie
+use Rattle.search.specs.Following.{Walked, searched-of, walk-begins, walk-at, walk-room, walk-long, walk-on, walk-ends}
+use Rattle.search.proofs.path.least_path.Statement.{statement}
+use Rattle.search.proofs.path.least_path.Tie as tie
 
 abbrev Inv-loop : tie.InvT-loop
 Inv-loop st m table keys p nodes₀ u₀ i₀ nodes u i = Walked m st table keys p nodes₀ nodes u i
