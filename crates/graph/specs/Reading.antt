@@ -6,7 +6,6 @@ use mathlib.Core.Bool.{true, false}
 use mathlib.Core.List.{List}
 use lib.Dec.{ltb}
 use lib.ListN.{length}
-use borrow.Author.Tests.{lt-ltb, le-ltb}
 use Rattle.model.specs.declared.Measures.{Measures}
 use Rattle.model.specs.Cells.{sideNumber, sideAt}
 use Rattle.model.specs.Sectors.{sectors, cells}
@@ -14,7 +13,7 @@ use Rattle.model.specs.Accepted.{Accepted}
 use Rattle.model.specs.Windows.{windowCount, firstPlace, lastPlace}
 use Rattle.model.specs.Portals.{portalSector, portalWindow, portalMark, isPortal}
 use Rattle.model.specs.Sides.{number-side}
-use Rattle.model.specs.PortalNumbers.{portal-is}
+use Rattle.model.specs.PortalNumbers.{portal-is, portal-none, portal-test}
 use Rattle.model.specs.PortalCrossings.{Fits, portal-run}
 use Rattle.model.specs.Store.{u16At, measuresAt, sizeOf, decode}
 use Rattle.model.specs.StoreLayout.{marks-at}
@@ -53,12 +52,10 @@ module _ {m : Measures} {st : List ℕ} (o : Opened m st) where
   mark-low p = omega (arith, fits-of .marked (p / 20) (sideAt (p % 20 / 5)))
 
   pub no-sector : (p : ℕ) → sectors m ≤ portalSector p → false ≡ isPortal (decode st) p
-  unfolding isPortal decode
-  no-sector p = rw (o .read) (λ l. rw (le-ltb (p / 20) (sectors (measuresAt st)) l))
+  no-sector p l = sym (portal-none (decode st) p (rw measures-are l))
 
   pub window-test : (p n : ℕ) → portalSector p < sectors m → n ≡ windowCount (portalMark (decode st) p) → ltb (portalWindow p) n ≡ isPortal (decode st) p
-  unfolding isPortal decode
-  window-test p n = rw (o .read) (λ l e. rw (lt-ltb (p / 20) (sectors (measuresAt st)) l, e))
+  window-test p n l e = rw e (sym (portal-test (decode st) p (rw measures-are l)))
 
   -- a portal's sector
   pub portal-sector : (p : ℕ) → isPortal (decode st) p ≡ true → portalSector p < sectors m

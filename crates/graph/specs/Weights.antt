@@ -14,7 +14,7 @@ use Rattle.laws.specs.Region.{region, length-region, getD-region}
 use Rattle.model.specs.declared.Measures.{Measures}
 use Rattle.model.specs.declared.Side.{Side}
 use Rattle.model.specs.Cells.{sideAt}
-use Rattle.model.specs.Sectors.{sectors, cells, sectorOf, placeOf, costsOf, hasBeyond}
+use Rattle.model.specs.Sectors.{floorNumber, sectors, cells, sectorOf, placeOf, costsOf, hasBeyond}
 use Rattle.model.specs.Moves.{moves, apart}
 use Rattle.model.specs.Halls.{Hall}
 use Rattle.model.specs.Portals.{sectorPortals, arcCount, portalSector, portalSide, portalPlace, placePortal, arcAt, isPortal, midpoint, movesFrom, facing, key, outerEdge, innerEdge, edgeAt, portalGraph}
@@ -59,7 +59,7 @@ inner-by h fits from q = go (isPortal h q) refl
 
 -- what the midpoints of its sector say of number p
 module _ (h : Hall) (p : ℕ) {mids : List ℕ} (given : mids ≡ sectorMids h (portalSector p)) where
-  pub mids-long : length mids ≡ 20
+  pub mids-long : length mids ≡ sectorPortals
   unfolding sectorMids
   mids-long = rw given (length-tabulate (λ k. midOf h (placePortal (portalSector p) k)) 20 0)
 
@@ -85,7 +85,7 @@ module _ (h : Hall) (p : ℕ) {mids : List ℕ} (given : mids ≡ sectorMids h (
       go false e = absurd (omega (arith, own-mid, mid-none h p e))
 
 -- the moves from a cell that is its midpoint
-pub moves-own : (h : Hall) (p mid : ℕ) {x : ℕ} {from : List ℕ} → x ≡ p / 20 * 100 + mid → mid ≡ midpoint h p → mid < 100 → from ≡ moves (costsOf (h .scaled) (sectorOf x)) (placeOf x) → from ≡ movesFrom h p
+pub moves-own : (h : Hall) (p mid : ℕ) {x : ℕ} {from : List ℕ} → x ≡ floorNumber (portalSector p) mid → mid ≡ midpoint h p → mid < 100 → from ≡ moves (costsOf (h .scaled) (sectorOf x)) (placeOf x) → from ≡ movesFrom h p
 moves-own h p mid {x} a b l e =
     let sector : x / 100 ≡ p / 20 = omega arith in
     let place : x % 100 ≡ midpoint h p = omega arith in

@@ -107,6 +107,20 @@ module _ {g : Graph} (rank : ℕ → ℕ) (sound : Sound g) (d : List ℕ) (u : 
   next-nearest zero l = none refl (λ f k. absurd (omega arith))
   next-nearest (suc n) l = closer-nearest n (next g rank d u n) l (next-nearest n (omega arith))
 
+-- every path begins at its node
+pub trail-front : {g : Graph} {t u c : ℕ} {p : List ℕ} → Trail g t u p c → (r : List ℕ) × (p ≡ u ∷ r)
+trail-front ends = ([], refl)
+trail-front (goes {p = p} e l k h w q) = (p, refl)
+
+pub path-front : (g : Graph) (rank : ℕ → ℕ) (d : List ℕ) (n u : ℕ) → (r : List ℕ) × (path g rank d n u ≡ u ∷ r)
+unfolding path
+path-front g rank d zero u = ([], refl)
+path-front g rank d (suc n) u = go (eqb (getD d u 0) 0) refl
+  where
+    go : (b : Bool) → eqb (getD d u 0) 0 ≡ b → (r : List ℕ) × (elim (eqb (getD d u 0) 0) [ true ↦ u ∷ [] | false ↦ u ∷ path g rank d n (next g rank d u (g .arcs)) ] ≡ u ∷ r)
+    go true q = ([], rw q)
+    go false q = (path g rank d n (next g rank d u (g .arcs)), rw q)
+
 -- a walk of cost 0 stays
 zero-walk : {g : Graph} {s v c : ℕ} → Walk g s v c → c ≡ 0 → v ≡ s
 zero-walk stay q = refl
@@ -155,20 +169,6 @@ module _ {g : Graph} (rank : ℕ → ℕ) {t top : ℕ} {d : List ℕ} (ok : Set
           let cost : getD d u 0 ≡ getD d v 0 + g .weight (x .0) = omega (arith, x .2 .exact) in
           rw q (goes (x .0) (x .1) (x .2 .real) (x .2 .leaves) there cost)
 
-  -- every path begins at its node
-  trail-begins : {u c : ℕ} {p : List ℕ} → Trail g t u p c → (r : List ℕ) × (p ≡ u ∷ r)
-  trail-begins ends = ([], refl)
-  trail-begins (goes {p = p} e l k h w q) = (p, refl)
-
-  path-begins : (n u : ℕ) → (r : List ℕ) × (path g rank d n u ≡ u ∷ r)
-  unfolding path
-  path-begins zero u = ([], refl)
-  path-begins (suc n) u = go (eqb (getD d u 0) 0) refl
-    where
-      go : (b : Bool) → eqb (getD d u 0) 0 ≡ b → (r : List ℕ) × (elim (eqb (getD d u 0) 0) [ true ↦ u ∷ [] | false ↦ u ∷ path g rank d n (next g rank d u (g .arcs)) ] ≡ u ∷ r)
-      go true q = ([], rw q)
-      go false q = (path g rank d n (next g rank d u (g .arcs)), rw q)
-
   -- of all paths that cost the least it comes first
   pub path-first : Tells g rank → (n u : ℕ) {c : ℕ} {p : List ℕ} → Trail g t u p c → c ≡ getD d u 0 → getD d u 0 ≤ n → First rank (path g rank d n u) p
   unfolding path
@@ -186,7 +186,7 @@ module _ {g : Graph} (rank : ℕ → ℕ) {t top : ℕ} {d : List ℕ} (ok : Set
       go x rec = apart (below-or (rank v) (rank (g .head e)))
         where
           apart : (rank v < rank (g .head e)) ⊎ (rank (g .head e) ≤ rank v) → First rank (path g rank d n v) p
-          apart (inl j) = rw (path-begins n v .1, trail-begins w .1) (less j)
+          apart (inl j) = rw (path-front g rank d n v .1, trail-front w .1) (less j)
           apart (inr j) =
               let level : rank (g .head (x .0)) ≡ rank (g .head e) = omega (arith, x .4, ap rank (x .3)) in
               rw (sym (x .3) ∙ tells (x .0) e (x .1) l (x .2 .real) k level) (rec tt)

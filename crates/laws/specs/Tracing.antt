@@ -12,7 +12,7 @@ use lib.Dec.{ltb, eqb}
 use borrow.Author.Tests.{ltb-true, lt-ltb, eqb-true, eq-eqb, ne-eqb}
 use Rattle.laws.specs.Fold.{pick}
 use Rattle.laws.specs.Graph.{Graph, Sound, Settled, turned}
-use Rattle.laws.specs.FirstPath.{Trail, ends, goes, tight, better, closer, next, path, path-trail}
+use Rattle.laws.specs.FirstPath.{Trail, ends, goes, tight, better, closer, next, path, path-trail, trail-front, path-front}
 
 -- ---- the next node
 module _ (g : Graph) (rank : ℕ → ℕ) (d : List ℕ) (u : ℕ) where
@@ -70,18 +70,6 @@ path-zero g rank d (suc n) u z = rw (eq-eqb (getD d u 0) 0 z, path)
 path-suc : (g : Graph) (rank : ℕ → ℕ) (d : List ℕ) (n u : ℕ) → (getD d u 0 ≡ 0 → ⊥) → path g rank d (suc n) u ≡ u ∷ path g rank d n (next g rank d u (g .arcs))
 unfolding path
 path-suc g rank d n u z = rw (ne-eqb (getD d u 0) 0 z, path)
-
-path-front : (g : Graph) (rank : ℕ → ℕ) (d : List ℕ) (n u : ℕ) → (r : List ℕ) × (path g rank d n u ≡ u ∷ r)
-path-front g rank d zero u = ([], unfold path in refl)
-path-front g rank d (suc n) u = go (ℕ-discrete (getD d u 0) 0)
-  where
-    go : Dec (getD d u 0 ≡ 0) → (r : List ℕ) × (path g rank d (suc n) u ≡ u ∷ r)
-    go (yes z) = ([], path-zero g rank d (suc n) u z)
-    go (no z) = (path g rank d n (next g rank d u (g .arcs)), path-suc g rank d n u z)
-
-trail-front : {g : Graph} {t u c : ℕ} {p : List ℕ} → Trail g t u p c → (r : List ℕ) × (p ≡ u ∷ r)
-trail-front ends = ([], refl)
-trail-front (goes {p = p} e l k h w q) = (p, refl)
 
 trail-node : {g : Graph} {t u c : ℕ} {p : List ℕ} → Sound g → t < g .nodes → Trail g t u p c → u < g .nodes
 trail-node sound l ends = l

@@ -7,6 +7,7 @@ use Rattle.laws.specs.LeastCosts.{least-costs}
 use Rattle.laws.specs.FirstPath.{path}
 use Rattle.model.specs.declared.FieldCell.{FieldCell}
 use Rattle.model.specs.Cells.{sideNumber}
+use Rattle.model.specs.Sectors.{sectorCells}
 use Rattle.model.specs.Windows.{borderCell, firstPlace, lastPlace}
 use Rattle.model.specs.Halls.{Hall}
 use Rattle.model.specs.Portals.{portalSector, portalSide, portalWindow, portalMark, keyStep}
@@ -20,7 +21,7 @@ unfoldable pub nodeRank : Hall → ℕ → ℕ
 nodeRank h p =
     let first = borderCell (portalSide p) (firstPlace (portalMark h p) (portalWindow p)) in
     let last = borderCell (portalSide p) (lastPlace (portalMark h p) (portalWindow p)) in
-    ((portalSector p * 100 + cellRank first) * 100 + cellRank last) * 4 + sideNumber (portalSide p)
+    ((portalSector p * sectorCells + cellRank first) * sectorCells + cellRank last) * 4 + sideNumber (portalSide p)
 
 -- stands for no path: more than any key
 abbrev pub unlinked : ℕ

@@ -1,5 +1,5 @@
 -- 01, item 7, second part: moves inside a sector, and "joined".
-use Prim.Native.Nat.{ℕ, _/_, _%_}
+use Prim.Native.Nat.{ℕ, _*_, _/_, _%_}
 use mathlib.Core.Bool.{Bool, _&&_}
 use mathlib.Core.List.{List}
 use lib.Dec.{ltb, eqb}
@@ -9,17 +9,17 @@ use Rattle.laws.specs.Graph.{Graph}
 use Rattle.laws.specs.LeastCosts.{least-costs}
 use Rattle.model.specs.Cells.{sideAt, beside}
 use Rattle.model.specs.Costs.{openAt}
-use Rattle.model.specs.Sectors.{sectorOf, placeOf, costsOf}
+use Rattle.model.specs.Sectors.{sectorCells, sectorOf, placeOf, costsOf}
 
 -- "Moves inside a sector go between open side neighbours at 1 each": for j beside i, 1 where j is in the sector and both are open, else 0
 unfoldable pub move : List ℕ → ℕ → ℕ → ℕ
-move costs i j = pick (ltb j 100 && (openAt costs i && openAt costs j)) 1 0
+move costs i j = pick (ltb j sectorCells && (openAt costs i && openAt costs j)) 1 0
 
 -- a sector's moves, by its 100 costs: arc e leaves cell e / 4 over its side e % 4
 abbrev pub moveGraph : List ℕ → Graph
 moveGraph costs = record {
-  nodes = 100;
-  arcs = 400;
+  nodes = sectorCells;
+  arcs = sectorCells * 4;
   tail = λ e. e / 4;
   head = λ e. beside (e / 4) (sideAt (e % 4));
   weight = λ e. move costs (e / 4) (beside (e / 4) (sideAt (e % 4)));

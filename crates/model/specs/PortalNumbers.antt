@@ -1,10 +1,10 @@
 -- Portals by number: from sector, side and window, and back. What a portal is, taken apart and put together.
-use Prim.Native.Nat.{ℕ, _/_, _%_, _<_}
+use Prim.Native.Nat.{ℕ, _/_, _%_, _≤_, _<_}
 use native.Mathlib.Omega.{arith}
 use mathlib.Core.Path.{_≡_, sym, ap, _∙_}
-use mathlib.Core.Bool.{true}
+use mathlib.Core.Bool.{true, false}
 use lib.Dec.{ltb}
-use borrow.Author.Tests.{ltb-true, lt-ltb}
+use borrow.Author.Tests.{ltb-true, lt-ltb, le-ltb}
 use Rattle.laws.specs.Search.{both}
 use Rattle.model.specs.declared.Side.{Side}
 use Rattle.model.specs.Cells.{sideNumber, sideAt}
@@ -48,6 +48,15 @@ module _ (h : Hall) (p : ℕ) where
   is-portal : Portal h p → isPortal h p ≡ true
   unfolding isPortal
   is-portal t = rw (lt-ltb (portalSector p) (sectors (h .measures)) (t .inside), lt-ltb (portalWindow p) (windowCount (portalMark h p)) (t .among))
+
+  -- as code asks: by the sector, and then by the window
+  pub portal-none : sectors (h .measures) ≤ portalSector p → isPortal h p ≡ false
+  unfolding isPortal
+  portal-none l = rw (le-ltb (portalSector p) (sectors (h .measures)) l)
+
+  pub portal-test : portalSector p < sectors (h .measures) → isPortal h p ≡ ltb (portalWindow p) (windowCount (portalMark h p))
+  unfolding isPortal
+  portal-test l = rw (lt-ltb (portalSector p) (sectors (h .measures)) l)
 
   pub portal-low : isPortal h p ≡ true → p < portalCount (h .measures)
   portal-low e = omega (arith, portal-is e .inside)

@@ -16,7 +16,7 @@ use Rattle.laws.specs.Spans.{spans, cell, pairs-in-row}
 use Rattle.model.specs.Sectors.{sectorOf}
 use Rattle.model.specs.Moves.{joined, apart}
 use Rattle.model.specs.Halls.{Hall}
-use Rattle.model.specs.Portals.{isPortal, midCell, portalGraph}
+use Rattle.model.specs.Portals.{sectorPortals, placePortal, isPortal, midCell, portalGraph}
 use Rattle.model.specs.LeastPath.{unlinked, keysTo, costOfKey}
 use Rattle.model.specs.PortalCrossings.{Fits}
 use Rattle.model.specs.Route.{starts, ends, endOf, Pair, linkedPair, runOf, routePairs, chosenPair}
@@ -76,25 +76,25 @@ joins key leg last low = go (ltb leg apart) (ltb last apart) (ltb key unlinked) 
 
 -- the run of pair j: from place j / 20 of the start sector to place j % 20 of the end sector, whose first numbers are p and q
 abbrev pub pairRun : Graph → List ℕ → List ℕ → ℕ → ℕ → ℕ → ℕ
-pairRun g legs lasts p q j = runFor (getD (keysTo g (q + j % 20)) (p + j / 20) 0) (getD legs (j / 20) 0) (getD lasts (j % 20) 0)
+pairRun g legs lasts p q j = runFor (getD (keysTo g (q + j % sectorPortals)) (p + j / sectorPortals) 0) (getD legs (j / sectorPortals) 0) (getD lasts (j % sectorPortals) 0)
 
 -- ---- the pair
 module _ (h : Hall) (source goal : ℕ) where
   -- pair j, with the key of its path, its leg, the moves from its end to the goal, and its run
   abbrev pub pairAt : ℕ → Pair
-  pairAt j = record { start = sectorOf source * 20 + j / 20; end = endOf h (portalGraph h) goal (sectorOf goal * 20 + j % 20) }
+  pairAt j = record { start = placePortal (sectorOf source) (j / sectorPortals); end = endOf h (portalGraph h) goal (placePortal (sectorOf goal) (j % sectorPortals)) }
 
   abbrev pub keyAt : ℕ → ℕ
-  keyAt j = getD (keysTo (portalGraph h) (sectorOf goal * 20 + j % 20)) (sectorOf source * 20 + j / 20) 0
+  keyAt j = getD (keysTo (portalGraph h) (placePortal (sectorOf goal) (j % sectorPortals))) (placePortal (sectorOf source) (j / sectorPortals)) 0
 
   abbrev pub legAt : ℕ → ℕ
-  legAt j = getD (portalMoves h source) (j / 20) 0
+  legAt j = getD (portalMoves h source) (j / sectorPortals) 0
 
   abbrev pub lastAt : ℕ → ℕ
-  lastAt j = getD (portalMoves h goal) (j % 20) 0
+  lastAt j = getD (portalMoves h goal) (j % sectorPortals) 0
 
   abbrev pub runAt : ℕ → ℕ
-  runAt = pairRun (portalGraph h) (portalMoves h source) (portalMoves h goal) (sectorOf source * 20) (sectorOf goal * 20)
+  runAt = pairRun (portalGraph h) (portalMoves h source) (portalMoves h goal) (sectorOf source * sectorPortals) (sectorOf goal * sectorPortals)
 
   -- pair j is 01's pair
   pub record Chosen (j : ℕ) : Type 0 where
@@ -108,7 +108,7 @@ module _ (h : Hall) (source goal : ℕ) where
         cell linkedPair (endOf h (portalGraph h) goal)
         (λ p. isPortal h p && joined (h .scaled) source (midCell h p))
         (λ p. isPortal h p && joined (h .scaled) (midCell h p) goal)
-        (sectorOf source * 20) (sectorOf goal * 20)
+        (sectorOf source * sectorPortals) (sectorOf goal * sectorPortals)
 
     pairs-are : routePairs h (portalGraph h) source goal ≡ spans cells 400 0
     unfolding routePairs starts ends cells
@@ -116,11 +116,11 @@ module _ (h : Hall) (source goal : ℕ) where
         pairs-in-row linkedPair (endOf h (portalGraph h) goal)
         (λ p. isPortal h p && joined (h .scaled) source (midCell h p))
         (λ p. isPortal h p && joined (h .scaled) (midCell h p) goal)
-        (sectorOf source * 20) (sectorOf goal * 20)
+        (sectorOf source * sectorPortals) (sectorOf goal * sectorPortals)
 
     cell-is : (j : ℕ) → j < 400 → cells j ≡ pick (ltb (legAt j) apart) (pick (ltb (lastAt j) apart) (pick (ltb (keyAt j) unlinked) (pairAt j ∷ []) []) []) []
     unfolding cells linkedPair endOf
-    cell-is j l = rw (start-test h fits source (j / 20) (omega arith), end-test h fits goal (j % 20) (omega arith))
+    cell-is j l = rw (start-test h fits source (j / sectorPortals) (omega arith), end-test h fits goal (j % sectorPortals) (omega arith))
 
     -- what stands at place j
     module _ (j : ℕ) (l : j < 400) where
@@ -140,7 +140,7 @@ module _ (h : Hall) (source goal : ℕ) where
               let near : lastAt j < apart = ltb-true (lastAt j) apart f in
               let below : keyAt j < unlinked = ltb-true (keyAt j) unlinked g in
               let r = read true true true e f g in
-              holds (pairAt j) (r .0) (r .1 ∙ ap (λ (n : ℕ). costOfKey (keyAt j) + n) (sym (last-moves h fits goal (j % 20) (omega arith) near))) (omega (arith, r .1))
+              holds (pairAt j) (r .0) (r .1 ∙ ap (λ (n : ℕ). costOfKey (keyAt j) + n) (sym (last-moves h fits goal (j % sectorPortals) (omega arith) near))) (omega (arith, r .1))
           go false b c e f g = let r = read false b c e f g in empty (r .0) (omega (arith, r .1))
           go true false c e f g = let r = read true false c e f g in empty (r .0) (omega (arith, r .1))
           go true true false e f g = let r = read true true false e f g in empty (r .0) (omega (arith, r .1))

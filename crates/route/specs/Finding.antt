@@ -20,7 +20,7 @@ use Rattle.model.specs.Steps.{lastStep, flatSteps}
 use Rattle.model.specs.Moves.{movesTo, joined, apart}
 use Rattle.model.specs.MovesFewest.{joined-is}
 use Rattle.model.specs.Halls.{Hall}
-use Rattle.model.specs.Portals.{isPortal, portalGraph}
+use Rattle.model.specs.Portals.{sectorPortals, portalCount, placePortal, keyStep, isPortal, portalGraph}
 use Rattle.model.specs.LeastPath.{unlinked, keysTo, costOfKey, leastPath}
 use Rattle.model.specs.PortalCrossings.{Fits}
 use Rattle.model.specs.Route.{Found, none, route, endOf, runOf, stepsOf, chosenPair, throughPair, throughPortals, oneStep, routeOf}
@@ -76,7 +76,7 @@ module _ (h : Hall) where
   -- a start portal and the number of an end that a path joins
   pub record Paired (p e : ℕ) : Type 0 where
     pub start : isPortal h p ≡ true
-    pub end : e < sectors (h .measures) * 20
+    pub end : e < portalCount (h .measures)
     pub linked : getD (keysTo (portalGraph h) e) p 0 < unlinked
 
   -- the route over it
@@ -87,11 +87,11 @@ module _ (h : Hall) where
   pairRoute goal p e leg last = route (stepsOf h goal true (pairPath p e)) leg (costOfKey (getD (keysTo (portalGraph h) e) p 0) + last)
 
   module _ (fits : Fits h) (source goal : ℕ) {j : ℕ} (c : Chosen h source goal j) where
-    pub pair-found : throughPortals h (portalGraph h) source goal ≡ pairRoute goal (sectorOf source * 20 + j / 20) (sectorOf goal * 20 + j % 20) (legAt h source goal j) (lastAt h source goal j)
+    pub pair-found : throughPortals h (portalGraph h) source goal ≡ pairRoute goal (placePortal (sectorOf source) (j / sectorPortals)) (placePortal (sectorOf goal) (j % sectorPortals)) (legAt h source goal j) (lastAt h source goal j)
     unfolding throughPortals throughPair endOf runOf
     pair-found = rw (c .wins, leg-moves h fits source (j / 20) (omega (arith, c .low)) (c .joined-by .near-start), last-moves h fits goal (j % 20) (omega arith) (c .joined-by .near-end))
 
-    pub pair-paired : sectorOf goal < sectors (h .measures) → Paired (sectorOf source * 20 + j / 20) (sectorOf goal * 20 + j % 20)
+    pub pair-paired : sectorOf goal < sectors (h .measures) → Paired (placePortal (sectorOf source) (j / sectorPortals)) (placePortal (sectorOf goal) (j % sectorPortals))
     pair-paired l = record { start = near-portal h fits source (j / 20) (omega (arith, c .low)) (c .joined-by .near-start); end = omega arith; linked = c .joined-by .linked }
 
   -- the portals that were written down
@@ -117,7 +117,7 @@ module _ (h : Hall) where
       pair-no-room l = no-room (stepsOf h goal true (pairPath p e)) leg (costOfKey (getD (keysTo (portalGraph h) e) p 0) + last) list (taken-steps goal ∙ sym count) l
 
       pub pair-written : {new : List ℕ} → steps ≤ length list / 6 → new ≡ flatSteps (stepsOf h goal true (take n nodes)) ++ drop (6 * (n / 2 + 1)) list
-          → (routed-as.Route steps leg (getD keys p 0 / 4096 + last) ≡ foundAnswer (length list / 6) (pairRoute goal p e leg last)) × (new ≡ foundInto (pairRoute goal p e leg last) list)
+          → (routed-as.Route steps leg (getD keys p 0 / keyStep + last) ≡ foundAnswer (length list / 6) (pairRoute goal p e leg last)) × (new ≡ foundInto (pairRoute goal p e leg last) list)
       pair-written l came =
           let r = written-steps (stepsOf h goal true (pairPath p e)) leg (costOfKey (getD (keysTo (portalGraph h) e) p 0) + last) list (taken-steps goal ∙ sym count) l (came ∙ rw (taken, ← count)) in
           (rw is (r .0), r .1)

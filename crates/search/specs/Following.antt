@@ -15,10 +15,9 @@ use Rattle.laws.specs.Tracing.{next-skip, next-take, next-same, Tracing, tracin
 use Rattle.model.specs.declared.Measures.{Measures}
 use Rattle.model.specs.declared.Side.{Side}
 use Rattle.model.specs.Cells.{sideNumber, sideAt}
-use Rattle.model.specs.Sectors.{sectors}
 use Rattle.model.specs.Windows.{borderCell, firstPlace, lastPlace}
 use Rattle.model.specs.Halls.{Hall}
-use Rattle.model.specs.Portals.{portalCount, arcCount, portalSector, portalSide, portalWindow, arcTail, arcPlace, portalMark, isPortal, headOf, key, portalGraph}
+use Rattle.model.specs.Portals.{sectorPortals, portalCount, arcCount, portalSector, portalSide, portalWindow, arcTail, arcPlace, portalMark, isPortal, headOf, key, portalGraph}
 use Rattle.model.specs.LeastPath.{cellRank, nodeRank, unlinked, keysTo, leastPath}
 use Rattle.model.specs.PortalEdges.{weight-low, head-portal, portal-sound}
 use Rattle.model.specs.LeastPathFirst.{portal-keyed, keys-settled}
@@ -114,11 +113,11 @@ module _ (m : Measures) (table : List ℕ) (rank : ℕ → ℕ) (keys : List ℕ
 
 -- ---- all arcs of u
 module _ (m : Measures) (table : List ℕ) (rank : ℕ → ℕ) (keys : List ℕ) (u : ℕ) where
-  pub next-begins : portalCount m ≡ next (tableGraph m table) rank keys u (u * 20)
+  pub next-begins : portalCount m ≡ next (tableGraph m table) rank keys u (u * sectorPortals)
   unfolding next
-  next-begins = let q : 0 + u * 20 ≡ u * 20 = omega arith in sym (rw q at (next-same (tableGraph m table) rank keys u 0 (u * 20) (λ e a b t. omega arith)))
+  next-begins = let q : 0 + u * sectorPortals ≡ u * sectorPortals = omega arith in sym (rw q at (next-same (tableGraph m table) rank keys u 0 (u * sectorPortals) (λ e a b t. omega arith)))
 
-  pub next-ends : (a : ℕ) → u * 20 + 20 ≡ a → a ≤ arcCount m → next (tableGraph m table) rank keys u a ≡ next (tableGraph m table) rank keys u (arcCount m)
+  pub next-ends : (a : ℕ) → u * sectorPortals + sectorPortals ≡ a → a ≤ arcCount m → next (tableGraph m table) rank keys u a ≡ next (tableGraph m table) rank keys u (arcCount m)
   next-ends a e l =
       let q : a + (arcCount m - a) ≡ arcCount m = omega arith in
       sym (rw q at (next-same (tableGraph m table) rank keys u a (arcCount m - a) (λ f x y t. omega arith)))
