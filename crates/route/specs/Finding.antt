@@ -95,7 +95,8 @@ module _ (h : Hall) where
     pair-paired l = record { start = near-portal h fits source (j / 20) (omega (arith, c .low)) (c .joined-by .near-start); end = omega arith; linked = c .joined-by .linked }
 
   -- the portals that were written down
-  module _ (fits : Fits h) {p e n : ℕ} (z : Paired p e) (keys nodes old : List ℕ) (is : keys ≡ keysTo (portalGraph h) e) (many : n ≡ length (leastPath h (portalGraph h) keys p)) (wrote : nodes ≡ leastPath h (portalGraph h) keys p ++ drop n old) where
+  module _ (fits : Fits h) {p e n : ℕ} (z : Paired p e) (keys nodes old : List ℕ) (is : keys ≡ keysTo (portalGraph h) e)
+      (many : n ≡ length (leastPath h (portalGraph h) keys p)) (wrote : nodes ≡ leastPath h (portalGraph h) keys p ++ drop n old) where
     taken : take n nodes ≡ pairPath p e
     taken = rw wrote (take-at (leastPath h (portalGraph h) keys p) (drop n old) n (sym many)) ∙ ap (λ (k : List ℕ). leastPath h (portalGraph h) k p) is
 
@@ -128,7 +129,8 @@ module _ (h : Hall) (source goal : ℕ) {moves : ℕ} (is : moves ≡ pick (join
   unfolding routeOf
   apart-found e = go (joined (h .scaled) source goal) refl is
     where
-      go : (t : Bool) → joined (h .scaled) source goal ≡ t → moves ≡ pick t (movesTo (h .scaled) source goal) apart → throughPortals h (portalGraph h) source goal ≡ pick t (oneStep h source goal) (throughPortals h (portalGraph h) source goal)
+      go : (t : Bool) → joined (h .scaled) source goal ≡ t → moves ≡ pick t (movesTo (h .scaled) source goal) apart
+          → throughPortals h (portalGraph h) source goal ≡ pick t (oneStep h source goal) (throughPortals h (portalGraph h) source goal)
       go false f g = refl
       go true f g = absurd (omega (arith, joined-is (h .scaled) source goal f .near))
 

@@ -49,7 +49,8 @@ returns c =
     let g = G (c .before) in
     let s = S g in
     let given = s .pre .0 in
-    no-start (given .0 .graph .sound) (s .pre .1) (s .args .p) (s .args .q) (given .1) (given .2) (now (s .args .legs)) (now (s .args .lasts)) (replicate 20 0) zero-at (g .keys-to-goal .last .1 .1 .1 .1 .0) (g .keys-to-goal .ensures) (c .before .first-place .ensures) (c .if1 .taken)
+    no-start (given .0 .graph .sound) (s .pre .1) (s .args .p) (s .args .q) (given .1) (given .2) (now (s .args .legs)) (now (s .args .lasts)) (replicate 20 0) zero-at
+    (g .keys-to-goal .last .1 .1 .1 .1 .0) (g .keys-to-goal .ensures) (c .before .first-place .ensures) (c .if1 .taken)
 
 add-keys-to : tie.Need-add-keys-to
 add-keys-to c = search needs
@@ -81,7 +82,8 @@ returns-2 c =
     let g = G (e .before) in
     let s = S g in
     let given = s .pre .0 in
-    first-pair (given .0 .graph .sound) (s .pre .1) (s .args .p) (s .args .q) (given .1) (given .2) (now (s .args .legs)) (now (s .args .lasts)) (replicate 20 0) zero-at (g .keys-to-goal .last .1 .1 .1 .1 .0) (g .keys-to-goal .ensures) (e .before .first-place .ensures) (omega (arith, e .if1 .left)) (T c .keys-to .last .1 .1 .1 .0) (T c .keys-to .ensures) (c .first-place2 .ensures)
+    first-pair (given .0 .graph .sound) (s .pre .1) (s .args .p) (s .args .q) (given .1) (given .2) (now (s .args .legs)) (now (s .args .lasts)) (replicate 20 0) zero-at
+    (g .keys-to-goal .last .1 .1 .1 .1 .0) (g .keys-to-goal .ensures) (e .before .first-place .ensures) (omega (arith, e .if1 .left)) (T c .keys-to .last .1 .1 .1 .0) (T c .keys-to .ensures) (c .first-place2 .ensures)
 
 pub choose-pair-spec : {M : Type 1} → statement M
 choose-pair-spec =

@@ -63,7 +63,8 @@ returns : tie.Need-returns Inv-loop μ-loop
 returns c =
     let at = c .before in
     let args = S at .args in
-    (at .loop .least, subst (λ (n : ℕ). Picked (placeRun (now (args .keys)) (args .p) (now (args .legs)) (now (args .lasts))) unlinked 20 n (at .loop .least) (at .loop .best)) (omega (arith, at .loop .inv .0, c .loop-test .left)) (at .loop .inv .1))
+    let key = placeRun (now (args .keys)) (args .p) (now (args .legs)) (now (args .lasts)) in
+    (at .loop .least, subst (λ (n : ℕ). Picked key unlinked 20 n (at .loop .least) (at .loop .best)) (omega (arith, at .loop .inv .0, c .loop-test .left)) (at .loop .inv .1))
 
 pub first-place-spec : {M : Type 1} → statement M
 first-place-spec =
