@@ -12,7 +12,7 @@ import sys
 
 CRATES = pathlib.Path(__file__).resolve().parent.parent / "crates"
 
-# Names with a user outside the crates: "crate/file" or "crate/file:name", and who reads them.
+# Names with a reader outside the crates: a folder, a file, or a file and a name.
 KEPT = {
     "audit/specs": "the theorems that docs/AUDIT.md names",
     "audit/src/lib.rt": "a crate has a source",
@@ -32,6 +32,8 @@ KEPT = {
 SPLIT = re.compile(r"[\s(){}\[\],;.⌜⌝⟦⟧:]+")
 DECLARED = re.compile(r"^( *)(?:abbrev |unfoldable )?pub (record |data |ruleset )?(\S+)")
 USE = re.compile(r"\buse ([^\s{};]+?)(?:\.\{([^}]*)\}| as (\S+?))?;?$")
+MODULE = re.compile(r"Rattle·(\w+?)(?:·specs|·proofs)?\.(.*)$")
+MARKS = r"(?:pub |abbrev |unfoldable |record |data |ruleset |fn |struct |enum |const )"
 
 
 def code_of(path):
@@ -44,112 +46,110 @@ def words(lines):
     return set(SPLIT.split("\n".join(lines)))
 
 
+def deeper(lines, start, indent):
+    """Where the lines that stand deeper than an indentation end."""
+    end = start
+    while end < len(lines) and (not lines[end].strip() or len(lines[end]) - len(lines[end].lstrip()) > indent):
+        end += 1
+    return end
+
+
+def clauses(lines, start):
+    """The lines of a definition that follow on its signature."""
+    end = start
+    while end < len(lines) and lines[end].strip() and not DECLARED.match(lines[end]):
+        end += 1
+    return lines[start:end]
+
+
 def declarations(lines):
-    """(name, is_type_or_ruleset, statement, body) of each public name; a record's fields belong to the record."""
-    out = []
-    i = 0
-    while i < len(lines):
-        found = DECLARED.match(lines[i])
-        if not found or found.group(3) in ("mod", "use"):
-            i += 1
+    """{public name: what a reader of it sees}: its statement, and of a definition its text too. A record's fields belong to the record."""
+    out = {}
+    inside = 0
+    for i, line in enumerate(lines):
+        found = DECLARED.match(line)
+        if i < inside or not found or found.group(3) in ("mod", "use"):
             continue
-        indent, kind, name = len(found.group(1)), found.group(2), found.group(3)
-        end = i + 1
-        while end < len(lines) and (not lines[end].strip() or len(lines[end]) - len(lines[end].lstrip()) > indent):
-            end += 1
-        statement = lines[i:end]
-        body = []
-        if not kind and ("abbrev" in lines[i] or "unfoldable" in lines[i]):
-            while end < len(lines) and lines[end].strip() and not DECLARED.match(lines[end]):
-                body.append(lines[end])
-                end += 1
-        out.append((name, statement, body))
-        i = i + 1 if not kind else end
+        end = deeper(lines, i + 1, len(found.group(1)))
+        out[found.group(3)] = words(lines[i:end])
+        if found.group(2):
+            inside = end
+        elif "abbrev" in line or "unfoldable" in line:
+            out[found.group(3)] |= words(clauses(lines, end))
     return out
 
 
-def module_of(path):
-    """How other files write the module: Rattle.crate.specs.Name."""
-    parts = path.relative_to(CRATES).with_suffix("").parts
-    return parts[0], ".".join(parts[1:])
-
-
-def brought(path, lines):
-    """{(crate, module): names} that the file brings in, with None for the module itself, and the aliases of modules."""
-    names, aliases = {}, {}
+def names_brought(lines):
+    """{(crate, module): names} that a file takes from modules of the crates, by name or behind a module's name."""
+    out = {}
+    text = "\n".join(lines)
     for line in lines:
         found = USE.search(line.strip())
-        if not found:
-            continue
-        at = re.match(r"Rattle·(\w+?)(·specs|·proofs)?\.(.*)$", found.group(1))
+        at = MODULE.match(found.group(1)) if found else None
         if not at:
             continue
-        key = (at.group(1), at.group(3))
-        if found.group(2) is not None:
-            names.setdefault(key, set()).update(n.split(" as ")[0].strip() for n in found.group(2).split(","))
+        if found.group(2) is None:
+            behind = found.group(3) or at.group(2).split(".")[-1]
+            names = re.findall(rf"(?<![\w·.]){re.escape(behind)}\.([^\s(){{}}\[\],;.]+)", text)
         else:
-            aliases[found.group(3) or at.group(3).split(".")[-1]] = key
-    return names, aliases
+            names = [name.split(" as ")[0].strip() for name in found.group(2).split(",")]
+        out.setdefault(at.groups(), set()).update(names)
+    return out
 
 
-def mentioned(name, lines):
-    """Whether another declaration of the file mentions the name; its own clauses stand at its own indentation."""
-    marks = r"(?:pub |abbrev |unfoldable |record |data |ruleset |fn |struct |enum |const )"
-    own = re.compile(rf"^( *){marks}*{re.escape(name)}(?![^\s(:{{<])")
-    indents = {len(found.group(1)) for line in lines if "pub " in line and (found := own.match(line))}
-    return any(name in SPLIT.split(line) for line in lines if not ((found := own.match(line)) and len(found.group(1)) in indents))
+def all_brought(lines):
+    used = {}
+    for path in lines:
+        for module, names in names_brought(lines[path]).items():
+            used.setdefault(module, set()).update(names)
+    return used
 
 
-def unused_code(path, lines, code):
-    """The public functions and types of a source that no other source names; a type may also stand in a public function's heading."""
-    others = set().union(*(w for p, w in code.items() if p != path))
-    text = "\n".join(lines[path])
+def unused_specs(public, used):
+    """The public names that are neither used nor told by a used one."""
+    seen = set(public) & used
+    told = set(seen)
+    while told:
+        told = set().union(*(public[name] for name in told)) & set(public) - seen
+        seen |= told
+    return [name for name in public if name not in seen]
+
+
+def unused_code(text, others):
+    """The public functions, types and constants of a source that no other source names; a type may also stand in a public function's heading."""
     headings = words(re.findall(r"pub fn [^{;]*", text))
     names = re.findall(r"^\s*pub (fn|struct|enum|const) (\w+)", text, re.M)
     return [name for kind, name in names if name not in others and (kind == "fn" or name not in headings)]
 
 
+def mentioned(name, lines):
+    """Whether another declaration of the file mentions the name; its own clauses stand at its own indentation."""
+    own = re.compile(rf"^( *){MARKS}*{re.escape(name)}(?![^\s(:{{<])")
+    indents = {len(found.group(1)) for line in lines if "pub " in line and (found := own.match(line))}
+    return any(name in SPLIT.split(line) for line in lines if not ((found := own.match(line)) and len(found.group(1)) in indents))
+
+
+def unused_in(path, lines, used, sources):
+    where = str(path.relative_to(CRATES))
+    if path.name == "Proof.antt" or any(where == kept or where.startswith(kept + "/") for kept in KEPT):
+        return []
+    if path.suffix == ".rt":
+        declared = {module.split(".")[2] for _, module in used if module.startswith("specs.declared.")}
+        names = unused_code("\n".join(lines[path]), declared.union(*(sources[p] for p in sources if p != path)))
+    else:
+        crate, *parts = path.relative_to(CRATES).with_suffix("").parts
+        kept = {name.split(":")[1] for name in KEPT if name.startswith(where + ":")}
+        names = unused_specs(declarations(lines[path]), used.get((crate, ".".join(parts)), set()) | kept)
+    return [(where, name) for name in names]
+
+
 def main():
     chosen = set(sys.argv[1:])
-    files = [p for p in sorted(CRATES.rglob("*")) if p.suffix in (".antt", ".rt")]
-    lines = {p: code_of(p) for p in files}
-    used = {}
-    for p in files:
-        names, aliases = brought(p, lines[p])
-        for key, some in names.items():
-            used.setdefault(key, set()).update(some)
-        text = "\n".join(lines[p])
-        for alias, key in aliases.items():
-            used.setdefault(key, set()).update(re.findall(rf"(?<![\w·.]){re.escape(alias)}\.([^\s(){{}}\[\],;.]+)", text))
-    code = {p: words(lines[p]) for p in files if p.suffix == ".rt"}
-    code[CRATES] = {key[1].split(".")[2] for key in used if ".declared." in "." + key[1]}
-
-    unused = []
-    for p in files:
-        crate, module = module_of(p)
-        if chosen and crate not in chosen:
-            continue
-        where = str(p.relative_to(CRATES))
-        kept = [k.split(":")[1] for k in KEPT if k.startswith(where + ":")]
-        if p.name == "Proof.antt" or any(where == k or where.startswith(k + "/") for k in KEPT if ":" not in k):
-            continue
-        if p.suffix == ".rt":
-            unused += [(where, name) for name in unused_code(p, lines, code) if name not in kept]
-            continue
-        public = declarations(lines[p])
-        fine = used.get((crate, module), set()) | set(kept)
-        spread = {name for name, _, _ in public} & fine
-        while True:
-            told = set()
-            for name, statement, body in public:
-                if name in spread:
-                    told |= words(statement) | words(body)
-            more = ({name for name, _, _ in public} & told) - spread
-            if not more:
-                break
-            spread |= more
-        unused += [(where, name) for name, _, _ in public if name not in spread]
-
+    lines = {path: code_of(path) for path in sorted(CRATES.rglob("*")) if path.suffix in (".antt", ".rt")}
+    used = all_brought(lines)
+    sources = {path: words(lines[path]) for path in lines if path.suffix == ".rt"}
+    files = [path for path in lines if not chosen or path.relative_to(CRATES).parts[0] in chosen]
+    unused = [found for path in files for found in unused_in(path, lines, used, sources)]
     for where, name in unused:
         print(f"{where}: {name}: {'needs no pub' if mentioned(name, lines[CRATES / where]) else 'nobody uses it'}")
     print(f"{len(unused)} public names without a user")
