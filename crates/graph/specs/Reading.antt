@@ -1,22 +1,22 @@
 -- What a store that passes the check shows of its portals: sizes, marks, and windows with their places.
 use Prim.Native.Nat.{ℕ, _+_, _*_, _/_, _%_, _≤_, _<_}
 use native.Mathlib.Omega.{arith}
-use mathlib.Core.Path.{_≡_, refl, sym}
+use mathlib.Core.Path.{_≡_, refl, sym, ap, _∙_}
 use mathlib.Core.Bool.{true, false}
 use mathlib.Core.List.{List}
 use lib.Dec.{ltb}
-use lib.ListN.{length}
+use lib.ListN.{length, getD}
 use Rattle.model.specs.declared.Measures.{Measures}
 use Rattle.model.specs.Cells.{sideNumber, sideAt}
-use Rattle.model.specs.Sectors.{sectors, cells}
+use Rattle.model.specs.Sectors.{sectors, costsOf}
 use Rattle.model.specs.Accepted.{Accepted}
 use Rattle.model.specs.Windows.{windowCount, firstPlace, lastPlace}
 use Rattle.model.specs.Portals.{portalSector, portalWindow, portalMark, isPortal}
 use Rattle.model.specs.Sides.{number-side}
 use Rattle.model.specs.PortalNumbers.{portal-is, portal-none, portal-test}
 use Rattle.model.specs.PortalCrossings.{Fits, portal-run}
-use Rattle.model.specs.Store.{u16At, measuresAt, sizeOf, decode}
-use Rattle.model.specs.StoreLayout.{marks-at}
+use Rattle.model.specs.Store.{measuresAt, sizeOf, marksIn, hallIn, decode}
+use Rattle.store.specs.Layout.{hall-read}
 use Rattle.portal.specs.declared.runs.OpenRun.{OpenRun}
 use Rattle.portal.specs.Runs.{placesOf}
 use Rattle.graph.specs.EdgeTable.{Opened, checked-fits}
@@ -42,11 +42,16 @@ module _ {m : Measures} {st : List ℕ} (o : Opened m st) where
   pub fits-of : Fits (decode st)
   fits-of = checked-fits (o .passes)
 
+  -- the scaled costs of sector s, by the measures that were read
+  pub sector-read : (s : ℕ) {part : List ℕ} → part ≡ costsOf (hallIn m st .scaled) s → part ≡ costsOf (decode st .scaled) s
+  sector-read s e = e ∙ ap (λ h. costsOf (h .scaled) s) (hall-read st (o .read))
+
   -- the mark of a portal's side
-  pub mark-read : (p : ℕ) → portalSector p < sectors m → u16At st (4 + 2 * cells m + 2 * (p / 5)) ≡ portalMark (decode st) p
+  pub mark-read : (p : ℕ) → portalSector p < sectors m → getD (marksIn m st) (p / 5) 0 ≡ portalMark (decode st) p
+  unfolding decode
   mark-read p =
       let place : p / 20 * 4 + sideNumber (sideAt (p % 20 / 5)) ≡ p / 5 = omega (arith, number-side (p % 20 / 5) (omega arith)) in
-      rw (o .read, place) (λ l. sym (marks-at st (p / 5) (omega arith)))
+      rw (o .read, place) (λ l. refl)
 
   pub mark-low : (p : ℕ) → portalMark (decode st) p ≤ 1023
   mark-low p = omega (arith, fits-of .marked (p / 20) (sideAt (p % 20 / 5)))

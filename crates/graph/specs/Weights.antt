@@ -5,23 +5,20 @@ use mathlib.Core.Path.{_≡_, refl, sym, ap, _∙_}
 use mathlib.Core.Bool.{Bool, true, false, _&&_}
 use mathlib.Core.List.{List}
 use lib.Dec.{ltb, eqb}
-use lib.ListN.{length, getD, take, drop}
-use lib.Seq.{ext-getD}
+use lib.ListN.{length, getD}
 use borrow.Author.Tests.{lt-ltb, eq-eqb, ne-eqb}
 use Rattle.laws.specs.Fold.{pick}
 use Rattle.laws.specs.Table.{length-tabulate, table-at}
-use Rattle.laws.specs.Region.{region, length-region, getD-region}
 use Rattle.model.specs.declared.Measures.{Measures}
 use Rattle.model.specs.declared.Side.{Side}
 use Rattle.model.specs.Cells.{sideAt}
-use Rattle.model.specs.Sectors.{floorNumber, sectors, cells, sectorOf, placeOf, costsOf, hasBeyond}
+use Rattle.model.specs.Sectors.{floorNumber, sectors, sectorOf, placeOf, costsOf, hasBeyond}
 use Rattle.model.specs.Moves.{moves, apart}
 use Rattle.model.specs.Halls.{Hall}
 use Rattle.model.specs.Portals.{sectorPortals, arcCount, portalSector, portalSide, portalPlace, placePortal, arcAt, isPortal, midpoint, movesFrom, facing, key, outerEdge, innerEdge, edgeAt, portalGraph}
 use Rattle.model.specs.PortalCrossings.{Fits, mid-low}
 use Rattle.model.specs.PortalEdges.{weight-at}
-use Rattle.model.specs.Store.{measuresAt, decode}
-use Rattle.model.specs.StoreLayout.{decode-laid, scaled-at}
+use Rattle.model.specs.Store.{decode}
 use Rattle.graph.specs.EdgeTable.{Opened, bare}
 use Rattle.graph.specs.Near.{midOf, sectorMids, nearBy, mid-some, mid-none}
 
@@ -106,23 +103,3 @@ module _ (h : Hall) (p c : ℕ) (low : c < sectorPortals) (inside : arcAt p c < 
   pub weight-by : Fits h → {from mids : List ℕ} {outer : ℕ} → isPortal h p ≡ true → from ≡ movesFrom h p → mids ≡ sectorMids h (portalSector p) → outer ≡ outerEdge h p → edgeBy from (getD mids c 0) outer (portalPlace p) c ≡ portalGraph h .weight (arcAt p c)
   unfolding edgeBy edgeAt
   weight-by fits e f g o = rw (place-mid h p g c low, f, o, inner-by h fits (movesFrom h p) (placePortal (portalSector p) c)) (sym (weight-is ∙ rw e refl))
-
--- the scaled costs of a sector, where the store has them
-costs-read : {m : Measures} {st : List ℕ} → Opened m st → (s : ℕ) → s < sectors m → region (4 + cells m + s * 100) 100 st ≡ costsOf (decode st .scaled) s
-costs-read {m} {st} o s = rw (o .read) (λ l.
-    let n = measuresAt st in
-    let long : length (decode st .scaled) ≡ cells n = unfold decode in decode-laid st (o .passes .room) .scaled-cells in
-    let fits : s * 100 + 100 ≤ length (decode st .scaled) = omega arith in
-    ext-getD 0 (region (4 + cells n + s * 100) 100 st) (costsOf (decode st .scaled) s)
-    (length-region (4 + cells n + s * 100) 100 st (omega (arith, o .passes .room)) ∙ sym (length-region (s * 100) 100 (decode st .scaled) fits))
-    (λ i k.
-    let low : i < 100 = omega (arith, length-region (4 + cells n + s * 100) 100 st (omega (arith, o .passes .room))) in
-    getD-region (4 + cells n + s * 100) 100 st i low ∙ ap (λ (j : ℕ). getD st j 0) (sum (cells n) (s * 100) i) ∙ sym (getD-region (s * 100) 100 (decode st .scaled) i low ∙ scaled-at st (s * 100 + i) (omega arith))))
-  where
-    sum : (a b i : ℕ) → 4 + a + b + i ≡ 4 + a + (b + i)
-    sum a b i = omega arith
-
--- a part of the store that is the scaled costs of sector s
-pub costs-part : {m : Measures} {st : List ℕ} → Opened m st → (s k n : ℕ) → s < sectors m → k ≡ 100 → n ≡ cells m → take k (drop (4 + n + s * 100) st) ≡ costsOf (decode st .scaled) s
-unfolding region
-costs-part o s k n l a b = rw (a, b) (costs-read o s l)

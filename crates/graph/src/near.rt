@@ -16,11 +16,11 @@ use crate::portals::midpoint;
 use fields::numbers::byte;
 use fields::numbers::wide;
 use fields::sectors::SECTOR_CELLS;
-use fields::sectors::cells;
 use model::Measures;
 use moves::open_cells::open_words;
 use moves::spread::moves_at;
 use moves::spread::spread;
+use store::layout::sector_part;
 
 // Stands for the crossing of a number that is no portal's: no cell of a sector.
 pub const NO_CROSSING: u8 = 100;
@@ -64,9 +64,7 @@ pub fn sector_words(st: &[u8], m: Measures, s: usize, words: &mut [u64])
     requires { ⌜ Opened m (now st) × (s < sectors m) × (length (now words) ≡ 2) ⌝ }
     ensures { λ _. ⌜ now (words .exit) ≡ openWords (costsOf (decode (now (st .entry)) .scaled) s) ⌝ }
 {
-    let start = 4 + cells(m) + s * 100;
-    let end = start + 100;
-    open_words(&st[start..end], words);
+    open_words(sector_part(st, m, s), words);
 }
 
 // The levels of the moves from cell x, by the open cells of its sector, and how many there are.
@@ -74,9 +72,12 @@ pub fn moves_from(st: &[u8], m: Measures, x: usize, words: &[u64], levels: &mut 
     requires { ⌜ Opened m (now st) × (x < cells m) × (now words ≡ openWords (costsOf (decode (now st) .scaled) (sectorOf x))) × (length (now levels) ≡ 202) ⌝ }
     ensures { λ r. ⌜ Spread (moves (costsOf (decode (now (st .entry)) .scaled) (sectorOf x)) (placeOf x)) (now (levels .exit)) r ⌝ }
 {
-    let start = 4 + cells(m) + x / 100 * 100;
-    let end = start + 100;
-    spread(&st[start..end], words, x % SECTOR_CELLS, levels)
+    spread(
+        sector_part(st, m, x / SECTOR_CELLS),
+        words,
+        x % SECTOR_CELLS,
+        levels,
+    )
 }
 
 // The fewest moves from one cell to another, or 255 where they are not joined.

@@ -12,7 +12,6 @@ use fields::cells::side_at;
 use fields::cells::side_number;
 use fields::numbers::wide;
 use fields::sectors::beyond;
-use fields::sectors::cells;
 use fields::sectors::sectors;
 use model::Measures;
 use model::PortalWindow;
@@ -22,7 +21,7 @@ use portal::listing::window_of;
 use portal::runs::OpenRun;
 use portal::runs::window_at;
 use portal::runs::window_count;
-use store::bytes::u16_at;
+use store::layout::mark_in;
 
 // How many numbers for portals a side and a sector have, and how many arcs a sector: as many for each of its numbers.
 const SIDE_PORTALS: usize = 5;
@@ -42,7 +41,7 @@ fn mark_of(st: &[u8], m: Measures, p: usize) -> u16
     requires { ⌜ Opened m (now st) × (portalSector p < sectors m) ⌝ }
     ensures { λ r. ⌜ (r ≡ portalMark (decode (now (st .entry))) p) × (r ≤ 1023) ⌝ }
 {
-    u16_at(st, 4 + 2 * cells(m) + 2 * (p / 5)) as u16
+    mark_in(st, m, p / SIDE_PORTALS)
 }
 
 // Whether a number is a portal's.

@@ -14,9 +14,10 @@ use Rattle.model.specs.Sides.{number-side}
 use Rattle.model.specs.Sectors.{sectors}
 use Rattle.model.specs.Store.{measuresAt, marksIn, decode}
 use Rattle.model.specs.Calls.{orElse, ifAccepted, checkNumber, windowsOf, windowsNumber, listed, windowsAnswer, windowsFlat}
+use Rattle.model.specs.Answers.{WindowsAnswers, windows-answers}
 use Rattle.store.specs.Checks.{Checked}
 use Rattle.portal.specs.Listing.{windowsBy, FourMarks, windows-by, over, few-by}
-use Rattle.parts.specs.Marks.{sectorMarks}
+use Rattle.store.specs.Layout.{sectorMarks}
 use Rattle.hall.proofs.Passed.{refused-first, none, passed}
 
 -- ---- the marks of a sector
@@ -36,18 +37,18 @@ module _ {st : List ℕ} {m : Measures} (s : ℕ) {marks : List ℕ} (read : m �
 -- ---- what is answered, and left in the list
 module _ (st : List ℕ) (s : ℕ) (list : List ℕ) where
   -- what a number answers
-  refused : (n : ℕ) → 0 < n → n ≡ windowsNumber st s (length list / 3) → (Refused n ≡ windowsAnswer st s (length list / 3)) × (list ≡ windowsFlat st s list)
+  refused : (n : ℕ) → 0 < n → n ≡ windowsNumber st s (length list / 3) → WindowsAnswers st s (length list / 3) (Refused n) × (list ≡ windowsFlat st s list)
   unfolding windowsAnswer windowsFlat listed ifAccepted
   refused zero h e = absurd (omega arith)
-  refused (suc n) h e = (rw (← e), rw (← e))
+  refused (suc n) h e = (windows-answers st s (length list / 3) (rw (← e)), rw (← e))
 
   module _ {r : ℕ} (is : r ≡ checkNumber st) where
-    pub refused-store : 0 < r → (Refused r ≡ windowsAnswer st s (length list / 3)) × (list ≡ windowsFlat st s list)
+    pub refused-store : 0 < r → WindowsAnswers st s (length list / 3) (Refused r) × (list ≡ windowsFlat st s list)
     unfolding windowsNumber
     refused-store h = refused r h (rw (← is) (refused-first r _ h))
 
     module _ (z : r ≤ 0) {m : Measures} (read : m ≡ measuresAt st) {n : ℕ} (all : n ≡ sectors m) where
-      pub refused-26 : n ≤ s → (Refused 26 ≡ windowsAnswer st s (length list / 3)) × (list ≡ windowsFlat st s list)
+      pub refused-26 : n ≤ s → WindowsAnswers st s (length list / 3) (Refused 26) × (list ≡ windowsFlat st s list)
       unfolding windowsNumber orElse refuse
       refused-26 h = let e : n ≡ sectors (measuresAt st) = all ∙ ap sectors read in refused 26 (omega arith) (rw (← is, none z, ← e, le-leb n s h))
 
@@ -61,7 +62,7 @@ module _ (st : List ℕ) (s : ℕ) (list : List ℕ) where
             let e : n ≡ sectors (measuresAt st) = all ∙ ap sectors read in
             rw (← is, none z, ← e, lt-leb n s on, windows-are s read (passed is z) (omega arith) are)
 
-        pub refused-27 : {count : ℕ} → (FourMarks marks → count ≡ length (windowsBy marks 4)) → length list / 3 < count → (Refused 27 ≡ windowsAnswer st s (length list / 3)) × (list ≡ windowsFlat st s list)
+        pub refused-27 : {count : ℕ} → (FourMarks marks → count ≡ length (windowsBy marks 4)) → length list / 3 < count → WindowsAnswers st s (length list / 3) (Refused 27) × (list ≡ windowsFlat st s list)
         unfolding refuse
         refused-27 c h = refused 27 (omega arith) (sym (number ∙ rw (lt-ltb (length list / 3) (length (windowsBy marks 4)) (omega (arith, c four)))))
 
@@ -72,11 +73,11 @@ module _ (st : List ℕ) (s : ℕ) (list : List ℕ) where
           pub few-listed : {found : ℕ} → found ≡ length (windowsBy marks 4) → found < 256
           few-listed e = omega (arith, few-by four 4 (omega arith))
 
-          pub listed-all : {found byte : ℕ} {out : List ℕ} → byte ≡ found → found ≡ length (windowsBy marks 4) → out ≡ over (windowsBy marks 4) list → (Windows byte ≡ windowsAnswer st s (length list / 3)) × (out ≡ windowsFlat st s list)
+          pub listed-all : {found byte : ℕ} {out : List ℕ} → byte ≡ found → found ≡ length (windowsBy marks 4) → out ≡ over (windowsBy marks 4) list → WindowsAnswers st s (length list / 3) (Windows byte) × (out ≡ windowsFlat st s list)
           unfolding windowsAnswer windowsFlat refuse listed ifAccepted
           listed-all b e o =
               let zero : windowsNumber st s (length list / 3) ≡ 0 = number ∙ rw (le-ltb (length list / 3) (length (windowsBy marks 4)) (omega (arith, c four))) in
               let w = windows-are s read (passed is z) (omega arith) are in
-              (rw (zero, w, b, e), rw (zero, w, o))
+              (windows-answers st s (length list / 3) (rw (zero, w, b, e)), rw (zero, w, o))
 
 pub ruleset listing = (four, room-listed, few-listed)

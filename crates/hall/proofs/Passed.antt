@@ -3,12 +3,23 @@ use mathlib.Core.Path.{_≡_, refl, sym, _∙_}
 use mathlib.Core.List.{List}
 use Prim.Native.Nat.{ℕ, zero, suc, _≤_, _<_}
 use native.Mathlib.Omega.{arith}
+use mathlib.Core.Bool.{true, false}
+use lib.Dec.{ltb}
 use lib.ListN.{length}
+use borrow.Author.Tests.{lt-ltb, le-ltb}
 use Rattle.model.specs.declared.Measures.{Measures}
 use Rattle.model.specs.Accepted.{Accepted}
-use Rattle.model.specs.Store.{measuresAt, sizeOf}
+use Rattle.model.specs.Store.{measuresAt, fourthAt, sizeOf}
 use Rattle.model.specs.Calls.{orElse, ifAccepted, checkNumber}
 use Rattle.store.specs.Checks.{Checked, checked}
+
+-- what the test of the fourth byte found: for the search at each return of the store check
+module _ (st : List ℕ) (r : ℕ) (is : r ≡ fourthAt st) where
+  pub fourth-bad : 0 < r → ltb 0 (fourthAt st) ≡ true
+  fourth-bad h = lt-ltb 0 (fourthAt st) (omega arith)
+
+  pub fourth-good : r ≤ 0 → ltb 0 (fourthAt st) ≡ false
+  fourth-good h = le-ltb 0 (fourthAt st) (omega arith)
 
 -- a number that comes before what else may be refused
 pub refused-first : (r rest : ℕ) → 0 < r → r ≡ orElse r rest

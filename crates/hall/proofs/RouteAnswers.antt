@@ -14,6 +14,7 @@ use Rattle.model.specs.Sectors.{cells}
 use Rattle.model.specs.Store.{measuresAt, decode}
 use Rattle.model.specs.Route.{routeOf}
 use Rattle.model.specs.Calls.{orElse, ifAccepted, checkNumber, foundNumber, routeNumber, routed, routeAnswer, routeFlat}
+use Rattle.model.specs.Answers.{RouteAnswers, route-answers}
 use Rattle.graph.specs.EdgeTable.{Opened}
 use Rattle.route.specs.Finding.{roomNumber, foundAnswer, foundInto}
 use Rattle.hall.proofs.Passed.{refused-first, none, passed}
@@ -24,13 +25,13 @@ opened is z read = record { passes = passed is z; read = read }
 
 module _ (st : List ℕ) (source goal : ℕ) (list : List ℕ) where
   -- what a number answers, and that it leaves the list
-  refused : (n : ℕ) → 0 < n → n ≡ routeNumber st source goal (length list / 6) → (Refused n ≡ routeAnswer st source goal (length list / 6)) × (list ≡ routeFlat st source goal list)
+  refused : (n : ℕ) → 0 < n → n ≡ routeNumber st source goal (length list / 6) → RouteAnswers st source goal (length list / 6) (Refused n) × (list ≡ routeFlat st source goal list)
   unfolding routeAnswer routeFlat routed ifAccepted
   refused zero h e = absurd (omega arith)
-  refused (suc n) h e = (rw (← e), rw (← e))
+  refused (suc n) h e = (route-answers st source goal (length list / 6) (rw (← e)), rw (← e))
 
   module _ {r : ℕ} (is : r ≡ checkNumber st) where
-    pub refused-store : 0 < r → (Refused r ≡ routeAnswer st source goal (length list / 6)) × (list ≡ routeFlat st source goal list)
+    pub refused-store : 0 < r → RouteAnswers st source goal (length list / 6) (Refused r) × (list ≡ routeFlat st source goal list)
     unfolding routeNumber
     refused-store h = refused r h (rw (← is) (refused-first r _ h))
 
@@ -39,12 +40,12 @@ module _ (st : List ℕ) (source goal : ℕ) (list : List ℕ) where
       unfolding routeNumber foundNumber orElse decode
       past = let e : size ≡ cells (measuresAt st) = all ∙ ap cells read in rw (← is, none z, e)
 
-      pub refused-23 : size ≤ source → (Refused 23 ≡ routeAnswer st source goal (length list / 6)) × (list ≡ routeFlat st source goal list)
+      pub refused-23 : size ≤ source → RouteAnswers st source goal (length list / 6) (Refused 23) × (list ≡ routeFlat st source goal list)
       unfolding refuse
       refused-23 h = refused 23 (omega arith) (sym (past ∙ rw (le-leb size source h)))
 
       module _ (from : source < size) where
-        pub refused-24 : size ≤ goal → (Refused 24 ≡ routeAnswer st source goal (length list / 6)) × (list ≡ routeFlat st source goal list)
+        pub refused-24 : size ≤ goal → RouteAnswers st source goal (length list / 6) (Refused 24) × (list ≡ routeFlat st source goal list)
         unfolding refuse
         refused-24 h = refused 24 (omega arith) (sym (past ∙ rw (lt-leb size source from, le-leb size goal h)))
 
@@ -54,6 +55,6 @@ module _ (st : List ℕ) (source goal : ℕ) (list : List ℕ) where
           last = past ∙ rw (lt-leb size source from, lt-leb size goal to)
 
           pub routed-all : {answer : Routed} {out : List ℕ} → answer ≡ foundAnswer (length list / 6) (routeOf (decode st) source goal) → out ≡ foundInto (routeOf (decode st) source goal) list
-              → (answer ≡ routeAnswer st source goal (length list / 6)) × (out ≡ routeFlat st source goal list)
+              → RouteAnswers st source goal (length list / 6) answer × (out ≡ routeFlat st source goal list)
           unfolding routeAnswer routeFlat foundAnswer foundInto
-          routed-all a o = (rw last a, rw last o)
+          routed-all a o = (route-answers st source goal (length list / 6) (rw last a), rw last o)

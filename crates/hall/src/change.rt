@@ -1,10 +1,10 @@
 // The change call.
 ghost use mathlib.Core.Path.{_≡_};
 ghost use Rattle.model.specs.Calls.{changeNumber, changeInto};
+use crate::check::check_store;
 use fields::sectors::cells;
 use parts::changing::change_hall;
-use store::bytes::measures_at;
-use store::check::check_store;
+use store::reading::measures_at;
 
 // Changes the cost of a cell. A refusal leaves the store as it was; bytes past the hall's size stay.
 pub fn change(st: &mut [u8], n: usize, cost: u8) -> u8

@@ -2,16 +2,17 @@
 ghost use mathlib.Core.Path.{_≡_};
 ghost use Prim.Native.Nat.{_/_};
 ghost use lib.ListN.{length};
-ghost use Rattle.model.specs.Calls.{routeAnswer, routeFlat};
+ghost use Rattle.model.specs.Calls.{routeFlat};
+ghost use Rattle.model.specs.Answers.{RouteAnswers};
+use crate::check::check_store;
 use fields::sectors::cells;
 use model::Routed;
 use route::find::find_path;
-use store::bytes::measures_at;
-use store::check::check_store;
+use store::reading::measures_at;
 
 // Finds the route from one cell to another, its steps six bytes each: column, row, goal, side, first and last cell. A refusal and "none" leave the list as it was.
 pub fn route(st: &[u8], source: usize, goal: usize, list: &mut [u8]) -> Routed
-    ensures answer { λ r. ⌜ r ≡ routeAnswer (now (st .entry)) source goal (length (now (list .entry)) / 6) ⌝ }
+    ensures answer { λ r. ⌜ RouteAnswers (now (st .entry)) source goal (length (now (list .entry)) / 6) r ⌝ }
     ensures steps { λ _. ⌜ now (list .exit) ≡ routeFlat (now (st .entry)) source goal (now (list .entry)) ⌝ }
 {
     let no = check_store(st);

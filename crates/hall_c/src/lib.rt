@@ -6,6 +6,7 @@ ghost use Rattle.model.specs.Calls.{planAnswer, readAnswer, readInto, measuresO
 ghost use Rattle.hall_c.specs.Answers.{version, dimensions, flatMeasures, flatRoute, flatWindows};
 use hall::build::build;
 use hall::change::change;
+use hall::check::check_store;
 use hall::file::read_file;
 use hall::plan::plan;
 use hall::routing::route;
@@ -14,7 +15,6 @@ use model::Dimensions;
 use model::Listed;
 use model::Measured;
 use model::Routed;
-use store::check::check_store;
 
 // What plan and read file answer: 01's number, and the measures, which are 0 where it is a refusal.
 #[repr(C)]

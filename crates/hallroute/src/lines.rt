@@ -11,7 +11,7 @@ use listing::decimal::put_small;
 use listing::lines::line_of;
 use listing::text::put_byte;
 use listing::text::put_text;
-use store::bytes::u16_at;
+use store::reading::u16_at;
 
 // The line of a pair, from the first byte on, and how long it is. The list holds 1,001 steps.
 fn pair_line(st: &[u8], source: usize, goal: usize, steps: &mut [u8], line: &mut [u8]) -> usize

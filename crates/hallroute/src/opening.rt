@@ -10,8 +10,8 @@ use fields::sectors::cells;
 use hall::build::build;
 use hall::file::read_file;
 use model::Measured;
-use store::bytes::measures_at;
-use store::bytes::u16_at;
+use store::reading::measures_at;
+use store::reading::u16_at;
 
 // How many bytes of the input are the hall file.
 pub fn file_size(input: &[u8]) -> usize

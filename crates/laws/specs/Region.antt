@@ -2,12 +2,14 @@
 -- `within` has the shape that the borrow checker gives a list whose part `&mut s[a..a + n]` came back from a call (`putMid`).
 use mathlib.Core.Path.{_≡_, refl, sym, ap, _∙_}
 use mathlib.Core.List.{List, [], _∷_, _++_, append-nil}
-use Prim.Native.Nat.{ℕ, _+_, _-_, _≤_, _<_}
-use native.Mathlib.Nat.{add-zero, not-suc-le-zero, le-of-suc-le-suc}
+use Prim.Native.Nat.{ℕ, zero, suc, _+_, _-_, _≤_, _<_}
+use native.Mathlib.Nat.{add-zero, add-assoc, add-sub-cancel-left, not-suc-le-zero, le-of-suc-le-suc}
+use native.Mathlib.Numerals.{add-one}
 use native.Mathlib.Omega.{arith}
 use lib.ListN.{length, take, drop, getD, set, length-append, length-take, length-drop, take-append-drop, drop-of-length-le}
-use lib.Seq.{take-at, drop-at, take-append-le, drop-append-le, drop-drop, getD-take, getD-drop, length-take-le, take-all}
-use borrow.Rule.Slice.PartMut.{set-mid-at}
+use lib.Seq.{take-at, drop-at, take-append-le, drop-append-le, drop-drop, getD-take, getD-drop, length-take-le, take-all, ext-getD}
+use borrow.Rule.Slice.PartMut.{set-mid-at, putMid}
+use Rattle.laws.specs.Fold.{run, run-length, Ran, ran-none, ran-turn, ran-end}
 
 unfoldable pub region : ℕ → ℕ → List ℕ → List ℕ
 region a n xs = take n (drop a xs)
@@ -27,6 +29,16 @@ length-region a n xs h = simp (length-take, length-drop) (omega arith)
 pub getD-region : (a n : ℕ) (xs : List ℕ) (i : ℕ) → i < n → getD (region a n xs) i 0 ≡ getD xs (a + i) 0
 unfolding region
 getD-region a n xs i h = getD-take n (drop a xs) i 0 h ∙ getD-drop a xs i 0
+
+-- a region of a region
+pub region-region : (a n b k : ℕ) (xs : List ℕ) → b + k ≤ n → a + n ≤ length xs → region b k (region a n xs) ≡ region (a + b) k xs
+region-region a n b k xs l fits =
+    let part : b + k ≤ length (region a n xs) = rw (length-region a n xs fits) l in
+    let long : length (region b k (region a n xs)) ≡ k = length-region b k (region a n xs) part in
+    ext-getD 0 (region b k (region a n xs)) (region (a + b) k xs) (long ∙ sym (length-region (a + b) k xs (omega arith)))
+    (λ i h.
+    let low : i < k = rw (← long) h in
+    getD-region b k (region a n xs) i low ∙ getD-region a n xs (b + i) (omega arith) ∙ ap (λ (j : ℕ). getD xs j 0) (sym (add-assoc a b i)) ∙ sym (getD-region (a + b) k xs i low))
 
 -- one element is a region
 alone : (p : ℕ) (xs : List ℕ) → getD xs p 0 ≡ getD (region p 1 xs) 0 0
@@ -100,8 +112,20 @@ unfolding region
 region-at a n p q r ep eq = simp (drop-at p (q ++ r) a ep, take-at q r n eq)
 
 -- A copy from the front is whole.
-pub copy-end : (k : ℕ) (s d : List ℕ) → length s ≤ k → length d ≡ length s → take k s ++ drop k d ≡ s
+copy-end : (k : ℕ) (s d : List ℕ) → length s ≤ k → length d ≡ length s → take k s ++ drop k d ≡ s
 copy-end k s d h e = rw (take-all k s h, drop-of-length-le d {i = k} (omega arith)) (append-nil s)
+
+-- what a copy leaves in a list as long, and in a part of a list that came back from it
+pub copied : {ys : List ℕ} (from to : List ℕ) → length to ≡ length from → ys ≡ take (length from) from ++ drop (length from) to → ys ≡ from
+copied from to e h = h ∙ copy-end (length from) from to (omega arith) e
+
+pub part-put : (a : ℕ) (xs list : List ℕ) {ys : List ℕ} → a + length list ≤ length xs
+    → ys ≡ take (length list) list ++ drop (length list) (take (a + length list - a) (drop a xs)) → putMid a (a + length list - a) xs ys ≡ placed a list xs
+unfolding placed
+part-put a xs list {ys} fits h =
+    let cut : List ℕ = take (a + length list - a) (drop a xs) in
+    let same : length cut ≡ length list = simp (length-take, length-drop) (omega arith) in
+    within-came a (length list) (a + length list - a) (λ old. list) xs ys (add-sub-cancel-left a (length list)) (copied list cut same h)
 
 -- four elements set at the front
 pub header-set : (c r k : ℕ) (xs : List ℕ) → 4 ≤ length xs → set (set (set (set xs 0 c) 1 r) 2 k) 3 0 ≡ (c ∷ r ∷ k ∷ 0 ∷ []) ++ drop 4 xs

@@ -3,7 +3,7 @@ ghost use mathlib.Core.Path.{_≡_};
 ghost use mathlib.Core.List.{[], _∷_, _++_};
 ghost use Prim.Native.Nat.{_+_, _*_, _≤_};
 ghost use lib.ListN.{length, drop};
-ghost use Rattle.model.specs.FlatSteps.{stepIn, stepsIn};
+ghost use Rattle.model.specs.FlatSteps.{stepsIn};
 ghost use Rattle.model.specs.Calls.{routedSteps};
 ghost use Rattle.model.specs.Listing.{sideLetter, windowText, stepText, stepsText};
 ghost use Rattle.listing.specs.Written.{Wrote};
@@ -13,6 +13,7 @@ use crate::decimal::put_medium;
 use crate::decimal::put_small;
 use crate::text::put_byte;
 use crate::text::put_text;
+use fields::steps::step_in;
 use model::RouteStep;
 use model::Routed;
 
@@ -53,22 +54,6 @@ fn put_step(line: &mut [u8], at: usize, s: RouteStep) -> usize
     let goal = put_byte(line, colon, b':');
     let window = put_small(line, goal, s.goal);
     put_window(line, window, s)
-}
-
-// Step k of a flat list of six bytes a step.
-fn step_in(flat: &[u8], k: usize) -> RouteStep
-    requires { ⌜ 6 * k + 6 ≤ length (now flat) ⌝ }
-    ensures { λ r. ⌜ r ≡ stepIn (now (flat .entry)) k ⌝ }
-{
-    let at = 6 * k;
-    RouteStep {
-        column: flat[at],
-        row: flat[at + 1],
-        goal: flat[at + 2],
-        side: flat[at + 3],
-        first: flat[at + 4],
-        last: flat[at + 5],
-    }
 }
 
 // The first steps of a flat list.

@@ -3,6 +3,7 @@ ghost use mathlib.Core.List.{[], _∷_};
 ghost use Prim.Native.Nat.{_+_, _≤_, _<_};
 ghost use lib.ListN.{length};
 ghost use Rattle.listing.specs.Written.{Wrote};
+use fields::copies::put_part;
 
 pub fn put_byte(line: &mut [u8], at: usize, b: u8) -> usize
     requires { ⌜ at < length (now line) ⌝ }
@@ -16,11 +17,6 @@ pub fn put_text(line: &mut [u8], at: usize, text: &[u8]) -> usize
     requires { ⌜ at + length (now text) ≤ length (now line) ⌝ }
     ensures { λ r. ⌜ Wrote (now (text .entry)) at r (now (line .entry)) (now (line .exit)) ⌝ }
 {
-    let n = text.len();
-    let mut k = 0;
-    while k < n {
-        line[at + k] = text[k];
-        k += 1;
-    }
-    at + n
+    put_part(text, at, line);
+    at + text.len()
 }

@@ -30,7 +30,7 @@ use Rattle.model.specs.Halls.{Hall, markAt}
 use Rattle.model.specs.Change.{changed, exceeds}
 use Rattle.model.specs.Route.{Found, none, routeOf}
 use Rattle.model.specs.Route as found-as
-use Rattle.model.specs.Store.{measuresAt, sizeOf, marksIn, decode, written, entryCount, entryNumber, baseIn}
+use Rattle.model.specs.Store.{measuresAt, fourthAt, sizeOf, marksIn, decode, written, entryCount, entryNumber, baseIn}
 use Rattle.model.specs.Account.{Call, change}
 use Rattle.model.specs.Account as call-as
 
@@ -79,8 +79,11 @@ measureNumber d =
 unfoldable pub planNumber : Dimensions → ℕ
 planNumber d = orElse (valueNumber d) (measureNumber d)
 
+abbrev pub planMeasures : Dimensions → Measures
+planMeasures d = record { columns = cutDown (acrossQuotient d); rows = cutDown (downQuotient d); scale = scaleOf d }
+
 unfoldable pub planAnswer : Dimensions → Measured
-planAnswer d = measured (planNumber d) (record { columns = cutDown (acrossQuotient d); rows = cutDown (downQuotient d); scale = scaleOf d })
+planAnswer d = measured (planNumber d) (planMeasures d)
 
 -- ---- read file
 -- 15 "a floor number too large"
@@ -138,7 +141,7 @@ checkNumber st =
     refuse (ltb (length st) 4) 18
     (refuse (badSectors (measuresAt st)) 11
     (refuse (badScale (measuresAt st)) 12
-    (refuse (ltb 0 (getD st 3 0)) 19
+    (refuse (ltb 0 (fourthAt st)) 19
     (refuse (ltb (length st) (sizeOf (measuresAt st))) 18
     (refuse (any (badMark (measuresAt st) (marksIn (measuresAt st) st)) (sectors (measuresAt st) * 4)) 20 0)))))
 

@@ -37,5 +37,6 @@ pub mod Store
 pub mod StoreLayout
 pub mod Calls
 pub mod FewSteps
+pub mod Answers
 pub mod Listing
 pub mod Computing

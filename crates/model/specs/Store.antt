@@ -17,16 +17,36 @@ u16At bytes i = getD bytes i 0 + 256 * getD bytes (i + 1) 0
 abbrev pub measuresAt : List ℕ → Measures
 measuresAt bytes = record { columns = getD bytes 0 0; rows = getD bytes 1 0; scale = getD bytes 2 0 }
 
+-- the header of a store: the measures and a fourth byte
+abbrev pub header : Measures → List ℕ
+header m = m .columns ∷ m .rows ∷ m .scale ∷ 0 ∷ []
+
+abbrev pub fourthAt : List ℕ → ℕ
+fourthAt st = getD st 3 0
+
+-- where the base costs, the scaled costs and the marks begin
+abbrev pub baseStart : ℕ
+baseStart = 4
+
+abbrev pub scaledStart : Measures → ℕ
+scaledStart m = 4 + cells m
+
+abbrev pub marksStart : Measures → ℕ
+marksStart m = 4 + 2 * cells m
+
 -- "Size 4 + 208 × sectors"
 abbrev pub sizeOf : Measures → ℕ
 sizeOf m = 4 + 208 * sectors m
 
 -- the hall in a store: "base costs and scaled costs, two parallel arrays by floor number; then per sector four u16 side marks N, E, S, W"
+abbrev pub markIn : Measures → List ℕ → ℕ → ℕ
+markIn m st k = u16At st (marksStart m + 2 * k)
+
 unfoldable pub marksIn : Measures → List ℕ → List ℕ
-marksIn m st = tabulate (λ k. u16At st (4 + 2 * cells m + 2 * k)) (sectors m * 4) 0
+marksIn m st = tabulate (markIn m st) (sectors m * 4) 0
 
 abbrev pub hallIn : Measures → List ℕ → Hall
-hallIn m st = record { measures = m; base = region 4 (cells m) st; scaled = region (4 + cells m) (cells m) st; marks = marksIn m st }
+hallIn m st = record { measures = m; base = region baseStart (cells m) st; scaled = region (scaledStart m) (cells m) st; marks = marksIn m st }
 
 unfoldable pub decode : List ℕ → Hall
 decode st = hallIn (measuresAt st) st
@@ -37,7 +57,7 @@ markBytes [] = []
 markBytes (mark ∷ marks) = mark % 256 ∷ mark / 256 ∷ markBytes marks
 
 unfoldable pub encode : Hall → List ℕ
-encode h = (h .measures .columns ∷ h .measures .rows ∷ h .measures .scale ∷ 0 ∷ []) ++ (h .base ++ (h .scaled ++ markBytes (h .marks)))
+encode h = header (h .measures) ++ (h .base ++ (h .scaled ++ markBytes (h .marks)))
 
 -- a hall written into a store: "Bytes past the size stay"
 unfoldable pub written : Hall → List ℕ → List ℕ

@@ -12,7 +12,7 @@ use Rattle.laws.specs.Table.{length-tabulate, tabulate-at}
 use Rattle.model.specs.declared.Measures.{Measures}
 use Rattle.model.specs.Sectors.{sectors, cells}
 use Rattle.model.specs.Halls.{Hall}
-use Rattle.model.specs.Store.{u16At, measuresAt, sizeOf, marksIn, decode, markBytes, encode, written}
+use Rattle.model.specs.Store.{u16At, measuresAt, header, baseStart, scaledStart, marksStart, markIn, sizeOf, marksIn, decode, markBytes, encode, written}
 
 -- ---- a hall whose lists are as long as its measures say
 pub record Laid (h : Hall) : Type 0 where
@@ -21,29 +21,21 @@ pub record Laid (h : Hall) : Type 0 where
   pub marks-sides : length (h .marks) ≡ sectors (h .measures) * 4
 
 -- ---- reading
-pub mark-at : (m : Measures) (st : List ℕ) (k : ℕ) → k < sectors m * 4 → getD (marksIn m st) k 0 ≡ u16At st (4 + 2 * cells m + 2 * k)
+pub mark-at : (m : Measures) (st : List ℕ) (k : ℕ) → k < sectors m * 4 → getD (marksIn m st) k 0 ≡ markIn m st k
 unfolding marksIn
-mark-at m st k h = tabulate-at (λ k. u16At st (4 + 2 * cells m + 2 * k)) (sectors m * 4) k 0 h
+mark-at m st k h = tabulate-at (markIn m st) (sectors m * 4) k 0 h
 
 length-marks : (m : Measures) (st : List ℕ) → length (marksIn m st) ≡ sectors m * 4
 unfolding marksIn
-length-marks m st = length-tabulate (λ k. u16At st (4 + 2 * cells m + 2 * k)) (sectors m * 4) 0
+length-marks m st = length-tabulate (markIn m st) (sectors m * 4) 0
 
 module _ (st : List ℕ) where
-  pub scaled-at : (n : ℕ) → n < cells (measuresAt st) → getD (decode st .scaled) n 0 ≡ getD st (4 + cells (measuresAt st) + n) 0
-  unfolding decode
-  scaled-at n h = getD-region (4 + cells (measuresAt st)) (cells (measuresAt st)) st n h
-
-  pub marks-at : (k : ℕ) → k < sectors (measuresAt st) * 4 → getD (decode st .marks) k 0 ≡ u16At st (4 + 2 * cells (measuresAt st) + 2 * k)
-  unfolding decode
-  marks-at k h = mark-at (measuresAt st) st k h
-
   module _ (room : sizeOf (measuresAt st) ≤ length st) where
     pub decode-laid : Laid (decode st)
     unfolding decode
     decode-laid = record {
-      base-cells = length-region 4 (cells (measuresAt st)) st (omega arith);
-      scaled-cells = length-region (4 + cells (measuresAt st)) (cells (measuresAt st)) st (omega arith);
+      base-cells = length-region baseStart (cells (measuresAt st)) st (omega arith);
+      scaled-cells = length-region (scaledStart (measuresAt st)) (cells (measuresAt st)) st (omega arith);
       marks-sides = length-marks (measuresAt st) st;
     }
 
@@ -88,35 +80,32 @@ module _ (h : Hall) (laid : Laid h) where
     unfolding written
     length-written room = simp (length-append, length-drop, length-encode) (omega arith)
 
-    abbrev header : List ℕ
-    header = h .measures .columns ∷ h .measures .rows ∷ h .measures .scale ∷ 0 ∷ []
-
     abbrev rest : List ℕ
     rest = markBytes (h .marks) ++ drop (sizeOf (h .measures)) st
 
-    parts : written h st ≡ header ++ (h .base ++ (h .scaled ++ rest))
+    parts : written h st ≡ header (h .measures) ++ (h .base ++ (h .scaled ++ rest))
     unfolding written encode
     parts = simp append-assoc
 
-    base-part : region 4 (cells (h .measures)) (written h st) ≡ h .base
-    base-part = ap (region 4 (cells (h .measures))) parts ∙ region-at 4 (cells (h .measures)) header (h .base) (h .scaled ++ rest) refl (laid .base-cells)
+    base-part : region baseStart (cells (h .measures)) (written h st) ≡ h .base
+    base-part = ap (region baseStart (cells (h .measures))) parts ∙ region-at baseStart (cells (h .measures)) (header (h .measures)) (h .base) (h .scaled ++ rest) refl (laid .base-cells)
 
-    scaled-part : region (4 + cells (h .measures)) (cells (h .measures)) (written h st) ≡ h .scaled
+    scaled-part : region (scaledStart (h .measures)) (cells (h .measures)) (written h st) ≡ h .scaled
     scaled-part =
-        ap (region (4 + cells (h .measures)) (cells (h .measures))) (parts ∙ sym (append-assoc header (h .base) (h .scaled ++ rest)))
-        ∙ region-at (4 + cells (h .measures)) (cells (h .measures)) (header ++ h .base) (h .scaled) rest (simp (laid .base-cells) (omega arith)) (laid .scaled-cells)
+        ap (region (scaledStart (h .measures)) (cells (h .measures))) (parts ∙ sym (append-assoc (header (h .measures)) (h .base) (h .scaled ++ rest)))
+        ∙ region-at (scaledStart (h .measures)) (cells (h .measures)) (header (h .measures) ++ h .base) (h .scaled) rest (simp (laid .base-cells) (omega arith)) (laid .scaled-cells)
 
     -- what stands before the marks
     abbrev front : List ℕ
-    front = header ++ (h .base ++ h .scaled)
+    front = header (h .measures) ++ (h .base ++ h .scaled)
 
-    front-length : length front ≡ 4 + 2 * cells (h .measures)
+    front-length : length front ≡ marksStart (h .measures)
     front-length = simp (length-append, laid .base-cells, laid .scaled-cells) (omega arith)
 
-    mark-written : (k : ℕ) → k < length (h .marks) → u16At (written h st) (4 + 2 * cells (h .measures) + 2 * k) ≡ getD (h .marks) k 0
+    mark-written : (k : ℕ) → k < length (h .marks) → markIn (h .measures) (written h st) k ≡ getD (h .marks) k 0
     mark-written k l =
-        ap (λ (w : List ℕ). u16At w (4 + 2 * cells (h .measures) + 2 * k)) (parts ∙ simp append-assoc)
-        ∙ u16-past front rest (4 + 2 * cells (h .measures)) (2 * k) front-length
+        ap (λ (w : List ℕ). markIn (h .measures) w k) (parts ∙ simp append-assoc)
+        ∙ u16-past front rest (marksStart (h .measures)) (2 * k) front-length
         ∙ u16-marks (h .marks) (drop (sizeOf (h .measures)) st) k l
 
     marks-part : marksIn (h .measures) (written h st) ≡ h .marks

@@ -1,16 +1,16 @@
 -- Facts for the proofs of changing: sides that exceed, the hall after a change, and what is answered and left in the store.
 use mathlib.Core.Path.{_≡_, refl, sym, ap, _∙_}
 use mathlib.Core.Bool.{Bool, true, false, _&&_, not}
-use mathlib.Core.List.{List, [], _∷_}
+use mathlib.Core.List.{List, [], _∷_, _++_}
 use Prim.Native.Nat.{ℕ, zero, suc, _+_, _*_, _/_, _%_, _≤_, _<_}
 use native.Mathlib.Nat.{not-suc-le-zero, le-of-suc-le-suc}
 use native.Mathlib.Omega.{arith}
 use native.Mathlib.Decide.{decLt}
 use lib.Dec.{ltb}
-use lib.ListN.{length, getD, set, length-set}
+use lib.ListN.{length, getD, set, take, drop}
 use Rattle.laws.specs.Fold.{pick}
 use Rattle.laws.specs.Ladder.{refuse}
-use Rattle.laws.specs.Region.{region}
+use Rattle.laws.specs.Region.{copied}
 use Rattle.laws.specs.Table.{tabulate, length-tabulate, tabulate-at}
 use Rattle.model.specs.declared.Measures.{Measures}
 use Rattle.model.specs.declared.Side.{Side}
@@ -24,9 +24,10 @@ use Rattle.model.specs.WindowRuns.{bits-small}
 use Rattle.model.specs.Store.{measuresAt, marksIn, hallIn, decode, written}
 use Rattle.model.specs.Change.{isNearby, rescaled, remarked, changed, exceedsAt, exceeds}
 use Rattle.model.specs.Calls.{ifAccepted}
+use Rattle.store.specs.Layout.{hallOf, hall-read}
 use Rattle.sector_cost.specs.Costs.{Costs}
 use Rattle.parts.specs.Marks.{Small}
-use Rattle.parts.specs.Parts.{hallOf, Changeable, alteredNumber, alteredInto}
+use Rattle.parts.specs.Parts.{Changeable, alteredNumber, alteredInto}
 
 -- ---- sides that exceed
 pub none-past : (l : List ℕ) (k : ℕ) → length l ≤ k → 0 ≡ getD l k 0
@@ -60,18 +61,19 @@ module _ {m : Measures} {st : List ℕ} {n : ℕ} (c : Changeable m st n) where
   pub costs-changed : (xs : List ℕ) → length xs ≡ cells m → Costs m xs
   costs-changed xs e = record { measures = c .measures; long = e }
 
-  pub changed-by : (cost : ℕ) {size size' : ℕ} {b s s' k k' : List ℕ} → size ≡ cells m → size' ≡ cells m → length b ≡ size
-      → b ≡ region 4 size st → s ≡ region (4 + length (set b n cost)) size' st → s' ≡ rescaled m (set b n cost) (n / 100) s
+  pub changed-by : (cost : ℕ) {b s s' k k' : List ℕ} → b ≡ hallIn m st .base → s ≡ hallIn m st .scaled → s' ≡ rescaled m (set b n cost) (n / 100) s
       → k ≡ marksIn m st → k' ≡ remarked m s' (n / 100) k → hallOf m (set b n cost) s' k' ≡ changed (decode st) n cost
-  unfolding changed decode
-  changed-by cost {size} {size'} {b} {s} {s'} {k} {k'} e e' lb eb es es' ek ek' =
-      let long : length (set b n cost) ≡ cells m = length-set b n cost ∙ lb ∙ e in
-      let base : set b n cost ≡ set (region 4 (cells m) st) n cost = rw (eb, e) in
-      let old : s ≡ region (4 + cells m) (cells m) st = es ∙ rw (long, e') in
-      let new : s' ≡ rescaled m (set (region 4 (cells m) st) n cost) (n / 100) (region (4 + cells m) (cells m) st) = es' ∙ rw (base, old) in
-      let marks : k' ≡ remarked m (rescaled m (set (region 4 (cells m) st) n cost) (n / 100) (region (4 + cells m) (cells m) st)) (n / 100) (marksIn m st) = ek' ∙ rw (new, ek) in
+  unfolding changed
+  changed-by cost {b} {s} {s'} {k} {k'} eb es es' ek ek' =
+      let base : set b n cost ≡ set (hallIn m st .base) n cost = ap (λ l. set l n cost) eb in
+      let new : s' ≡ rescaled m (set (hallIn m st .base) n cost) (n / 100) (hallIn m st .scaled) = es' ∙ rw (base, es) in
+      let marks : k' ≡ remarked m (rescaled m (set (hallIn m st .base) n cost) (n / 100) (hallIn m st .scaled)) (n / 100) (marksIn m st) = ek' ∙ rw (new, ek) in
       let done : hallOf m (set b n cost) s' k' ≡ changed (hallIn m st) n cost = λ i. record { measures = m; base = base i; scaled = new i; marks = marks i } in
-      done ∙ ap (λ x. changed (hallIn x st) n cost) (c .read)
+      done ∙ ap (λ h. changed h n cost) (hall-read st (c .read))
+
+-- a list as long as a part of the store, after that was copied into it
+pub part-copied : {whole part new : List ℕ} (old : List ℕ) → part ≡ whole → length old ≡ length part → new ≡ take (length part) part ++ drop (length part) old → new ≡ whole
+part-copied {whole} {part} old e l h = copied part old l h ∙ e
 
 -- marks of ten bits
 mark-small : (m : Measures) (costs : List ℕ) (s : ℕ) (side : Side) → markOf m costs s side ≤ 1023

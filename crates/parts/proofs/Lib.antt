@@ -1,4 +1,3 @@
-pub mod Laying
 pub mod Marking
 pub mod Altering
 pub mod Around

@@ -1,21 +1,15 @@
 -- Marks by their numbers.
-use Prim.Native.Nat.{ℕ, _+_, _*_, _/_, _%_, _≤_}
+use Prim.Native.Nat.{ℕ, _/_, _%_, _≤_}
 use mathlib.Core.List.{List}
 use lib.ListN.{getD}
-use Rattle.laws.specs.Table.{tabulate}
 use Rattle.model.specs.declared.Measures.{Measures}
 use Rattle.model.specs.Cells.{sideAt}
-use Rattle.model.specs.Sectors.{cells}
 use Rattle.model.specs.Windows.{markOf}
-use Rattle.model.specs.Store.{u16At}
-
--- the marks of sector s, by side: N, E, S, W
-unfoldable pub sectorMarks : List ℕ → ℕ → List ℕ
-sectorMarks marks s = tabulate (λ k. getD marks (s * 4 + k) 0) 4 0
+use Rattle.model.specs.Store.{markIn}
 
 -- what mark k becomes, whatever stood there: that of a store, and what the costs give
 abbrev pub kept : Measures → List ℕ → ℕ → ℕ → ℕ
-kept m st k old = u16At st (4 + 2 * cells m + 2 * k)
+kept m st k old = markIn m st k
 
 abbrev pub fresh : Measures → List ℕ → ℕ → ℕ → ℕ
 fresh m costs k old = markOf m costs (k / 4) (sideAt (k % 4))

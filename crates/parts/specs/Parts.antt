@@ -1,21 +1,17 @@
--- A hall of separate lists, what build and change ask once they are not refused, and a mark set in the bytes of a list of marks.
-use Prim.Native.Nat.{ℕ, _+_, _*_, _/_, _%_, _≤_, _<_}
+-- What build and change ask once they are not refused, and what a change answers and leaves then.
+use Prim.Native.Nat.{ℕ, _≤_, _<_}
 use mathlib.Core.Path.{_≡_}
 use mathlib.Core.List.{List}
-use lib.ListN.{length, getD, set}
+use lib.ListN.{length}
 use Rattle.laws.specs.Ladder.{refuse}
 use Rattle.model.specs.declared.Measures.{Measures}
 use Rattle.model.specs.Sectors.{cells, sectorOf}
 use Rattle.model.specs.Accepted.{Accepted}
-use Rattle.model.specs.Halls.{Hall}
 use Rattle.model.specs.Store.{measuresAt, sizeOf, decode, written}
 use Rattle.model.specs.Change.{changed, exceeds}
 use Rattle.model.specs.Calls.{ifAccepted}
 use Rattle.store.specs.Checks.{Checked}
 use Rattle.sector_cost.specs.Costs.{Costs}
-
-abbrev pub hallOf : Measures → List ℕ → List ℕ → List ℕ → Hall
-hallOf m base costs marks = record { measures = m; base = base; scaled = costs; marks = marks }
 
 -- what is built
 pub record Buildable (m : Measures) (base st : List ℕ) : Type 0 where
@@ -36,7 +32,3 @@ alteredNumber st n cost = refuse (exceeds (changed (decode st) n cost) (sectorOf
 
 unfoldable pub alteredInto : List ℕ → ℕ → ℕ → List ℕ
 alteredInto st n cost = ifAccepted (alteredNumber st n cost) (written (changed (decode st) n cost) st) st
-
--- the bytes of mark k, low byte first
-unfoldable pub setMark : List ℕ → ℕ → List ℕ → List ℕ
-setMark marks k bytes = set (set bytes (2 * k) (getD marks k 0 % 256)) (2 * k + 1) (getD marks k 0 / 256)

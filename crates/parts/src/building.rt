@@ -6,14 +6,14 @@ ghost use Rattle.model.specs.Sectors.{sectors, cells};
 ghost use Rattle.model.specs.Store.{written};
 ghost use Rattle.model.specs.Calls.{built};
 ghost use Rattle.parts.specs.Parts.{Buildable};
-use crate::layout::cost_room;
-use crate::layout::mark_room;
-use crate::layout::write_hall;
 use crate::marks::mark_all;
+use crate::rooms::cost_room;
+use crate::rooms::mark_room;
 use fields::sectors::cells;
 use fields::sectors::sectors;
 use model::Measures;
 use sector_cost::scale_all_costfields;
+use store::layout::write_hall;
 
 // Scales and marks a hall in lent lists, and writes it into a store.
 fn build_in(m: Measures, base: &[u8], scaled: &mut [u8], marks: &mut [u16], st: &mut [u8])

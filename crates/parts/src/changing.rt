@@ -11,15 +11,14 @@ ghost use Rattle.model.specs.Windows.{windowCount};
 ghost use Rattle.model.specs.Store.{decode};
 ghost use Rattle.model.specs.Change.{isNearby, remarked, changed, exceedsAt, exceeds};
 ghost use Rattle.model.specs.Nearby.{atNearby};
+ghost use Rattle.store.specs.Layout.{hallOf};
 ghost use Rattle.parts.specs.Around.{sectorFresh, sectorExceeds, placeExceeds};
 ghost use Rattle.parts.specs.Marks.{Small};
-ghost use Rattle.parts.specs.Parts.{hallOf, Changeable, alteredNumber, alteredInto};
-use crate::layout::cost_room;
-use crate::layout::mark_room;
-use crate::layout::take_part;
-use crate::layout::write_hall;
+ghost use Rattle.parts.specs.Parts.{Changeable, alteredNumber, alteredInto};
 use crate::marks::mark_side;
 use crate::marks::take_marks;
+use crate::rooms::cost_room;
+use crate::rooms::mark_room;
 use fields::cells::opposite;
 use fields::cells::side_at;
 use fields::cells::side_number;
@@ -34,6 +33,9 @@ use sector_cost::nearby::is_nearby;
 use sector_cost::nearby::is_there;
 use sector_cost::nearby::nearby;
 use sector_cost::rescale;
+use store::layout::base_part;
+use store::layout::scaled_part;
+use store::layout::write_hall;
 
 // Marks the four sides of sector s afresh.
 fn remark_sector(m: Measures, costs: &[u8], s: usize, marks: &mut [u16])
@@ -164,9 +166,9 @@ fn change_lists(
     requires { ⌜ Changeable m (now st) n × (length (now base) ≡ cells m) × (length (now scaled) ≡ cells m) × (length (now marks) ≡ sectors m * 4) ⌝ }
     ensures { λ _. ⌜ hallOf m (now (base .exit)) (now (scaled .exit)) (now (marks .exit)) ≡ changed (decode (now (st .entry))) n cost ⌝ }
 {
-    take_part(st, 4, base);
+    bytes::copy(base_part(st, m), base);
     base[n] = cost;
-    take_part(st, 4 + base.len(), scaled);
+    bytes::copy(scaled_part(st, m), scaled);
     rescale(m, base, n / 100, scaled);
     take_marks(st, m, marks);
     remark(m, scaled, n / 100, marks);

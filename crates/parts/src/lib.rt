@@ -1,5 +1,5 @@
-// The parts of a hall in lists of their own and in a store, and what build and change do to them.
+// What build and change do once they are not refused, on a hall of separate lists.
 pub mod building;
 pub mod changing;
-pub mod layout;
 pub mod marks;
+mod rooms;

@@ -1,30 +1,16 @@
 // The route call with a lent list of step records: document 01, "Steps go to a lent list of step records".
 ghost use mathlib.Core.Path.{_≡_};
 ghost use mathlib.Core.List.{_++_};
-ghost use Prim.Native.Nat.{_+_, _*_, _≤_, _<_, min};
+ghost use Prim.Native.Nat.{_*_, _≤_, min};
 ghost use lib.ListN.{length, drop};
-ghost use Rattle.model.specs.FlatSteps.{stepIn, stepsIn};
+ghost use Rattle.model.specs.FlatSteps.{stepsIn};
 ghost use Rattle.model.specs.Calls.{routedSteps, routeAnswer, routeSteps};
+ghost use Rattle.model.specs.Answers.{RouteAnswers};
 ghost use Rattle.records.specs.Routing.{Flatly};
+use fields::steps::step_in;
 use hall::routing::route;
 use model::RouteStep;
 use model::Routed;
-
-// Step i of a flat list, six bytes each.
-fn step_at(flat: &[u8], i: usize) -> RouteStep
-    requires { ⌜ 6 * i + 5 < length (now flat) ⌝ }
-    ensures { λ r. ⌜ r ≡ stepIn (now (flat .entry)) i ⌝ }
-{
-    let at = 6 * i;
-    RouteStep {
-        column: flat[at],
-        row: flat[at + 1],
-        goal: flat[at + 2],
-        side: flat[at + 3],
-        first: flat[at + 4],
-        last: flat[at + 5],
-    }
-}
 
 // The first n steps of a flat list go to the first n records; the others stay.
 fn write_records(flat: &[u8], n: usize, list: &mut [RouteStep])
@@ -33,7 +19,7 @@ fn write_records(flat: &[u8], n: usize, list: &mut [RouteStep])
 {
     let mut i = 0;
     while i < n {
-        list[i] = step_at(flat, i);
+        list[i] = step_in(flat, i);
         i += 1;
     }
 }
@@ -68,7 +54,7 @@ fn flat_route(st: &[u8], source: usize, goal: usize, records: usize, flat: &mut 
 
 // Finds the route from one cell to another and writes its steps to the first records of a list. A refusal and "none" leave the list as it was.
 pub fn route_records(st: &[u8], source: usize, goal: usize, list: &mut [RouteStep]) -> Routed
-    ensures answer { λ r. ⌜ r ≡ routeAnswer (now (st .entry)) source goal (length (now (list .entry))) ⌝ }
+    ensures answer { λ r. ⌜ RouteAnswers (now (st .entry)) source goal (length (now (list .entry))) r ⌝ }
     ensures steps { λ _. ⌜ now (list .exit) ≡ routeSteps (now (st .entry)) source goal (now (list .entry)) ⌝ }
 {
     let mut flat = [0; 6006];

@@ -3,6 +3,7 @@ ghost use mathlib.Core.Path.{_≡_};
 ghost use Prim.Native.Nat.{_+_, _≤_};
 ghost use lib.ListN.{length};
 ghost use Rattle.laws.specs.Region.{region, within};
+use fields::copies::put_part;
 
 // Puts n costs from place a on in place of those from place b on.
 pub fn copy_part(from: &[u8], a: usize, n: usize, b: usize, to: &mut [u8])
@@ -10,6 +11,5 @@ pub fn copy_part(from: &[u8], a: usize, n: usize, b: usize, to: &mut [u8])
     ensures { λ _. ⌜ now (to .exit) ≡ within b n (λ old. region a n (now (from .entry))) (now (to .entry)) ⌝ }
 {
     let e = a + n;
-    let f = b + n;
-    bytes::copy(&from[a..e], &mut to[b..f]);
+    put_part(&from[a..e], b, to);
 }

@@ -11,12 +11,11 @@ use Rattle.laws.specs.Fold.{pick, run}
 use Rattle.laws.specs.Search.{any, any-none}
 use Rattle.laws.specs.Ladder.{passed}
 use Rattle.model.specs.declared.Measures.{Measures}
-use Rattle.model.specs.declared.Measured.the-variants as measured-as
 use Rattle.model.specs.Cells.{sideAt}
 use Rattle.model.specs.Sectors.{sectors, cells, hasBeyond}
 use Rattle.model.specs.Accepted.{badSectors, badScale, Accepted, accepted}
 use Rattle.model.specs.Store.{measuresAt, sizeOf, marksIn, entryCount, entryNumber, putEntry, baseIn}
-use Rattle.model.specs.Calls.{badMark, checkNumber, entryOff, readNumber, readAnswer, readInto, measured, ifAccepted}
+use Rattle.model.specs.Calls.{badMark, checkNumber, entryOff, readNumber}
 
 -- What a test found of measures that were read from bytes: for the search at each return of a ladder.
 module _ (bytes : List ℕ) (m : Measures) (read : m ≡ measuresAt bytes) (r t : Bool) where
@@ -115,26 +114,7 @@ pub entry-on : (file : List ℕ) (n k : ℕ) → any (entryOff file) n ≡ false
 unfolding entryOff
 entry-on file n k e h = leb-false (cells (measuresAt file)) (entryNumber file k) (any-none (entryOff file) n k e h)
 
--- ---- answers
--- What reading gives, in the shape of a return: a refusal, and a list that was filled and took the entries.
-measured-no : (n : ℕ) (m : Measures) → (n ≡ 0 → ⊥) → measured-as.Refused n ≡ measured n m
-unfolding measured
-measured-no zero m h = absurd (h refl)
-measured-no (suc n) m h = refl
-
-not-accepted : (n : ℕ) (new old : List ℕ) → (n ≡ 0 → ⊥) → old ≡ ifAccepted n new old
-unfolding ifAccepted
-not-accepted zero new old h = absurd (h refl)
-not-accepted (suc n) new old h = refl
-
-module _ (file list : List ℕ) (r : ℕ) (is : r ≡ readNumber file (length list)) where
-  pub read-refused : (r ≡ 0 → ⊥) → (measured-as.Refused r ≡ readAnswer file (length list)) × (list ≡ readInto file list)
-  unfolding readAnswer readInto
-  read-refused h = (
-    rw (← is) (measured-no r (measuresAt file) h),
-    rw (← is) (not-accepted r (baseIn file (length list)) list h),
-  )
-
-  pub read-accepted : (m : Measures) (n : ℕ) (ones out : List ℕ) → r ≡ 0 → m ≡ measuresAt file → n ≡ entryCount file → ones ≡ replicate (length list) 1 → out ≡ run (putEntry file n) n ones → (measured-as.Accepted m ≡ readAnswer file (length list)) × (out ≡ readInto file list)
-  unfolding readAnswer readInto baseIn measured ifAccepted
-  read-accepted m n ones out h em en eo e = (rw (← is, h, em), rw (← is, h, e, en, eo))
+-- a list that was filled with 1 and took the entries
+pub filled-from : (file : List ℕ) (size n : ℕ) {ones out : List ℕ} → n ≡ entryCount file → ones ≡ replicate size 1 → out ≡ run (putEntry file n) n ones → out ≡ baseIn file size
+unfolding baseIn
+filled-from file size n en eo e = rw (e, en, eo)

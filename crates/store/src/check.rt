@@ -1,4 +1,4 @@
-// The store check, which opens each call on a store.
+// The tests of the store check, and those that build and read file share with it.
 ghost use mathlib.Core.Path.{_≡_};
 ghost use mathlib.Core.Bool.{not};
 ghost use Prim.Native.Nat.{_+_, _*_, _≤_, _<_};
@@ -8,11 +8,10 @@ ghost use Rattle.laws.specs.Search.{any};
 ghost use Rattle.model.specs.Sectors.{sectors, cells};
 ghost use Rattle.model.specs.Store.{sizeOf, marksIn};
 ghost use Rattle.model.specs.Accepted.{outside, badSectors, badScale, Accepted};
-ghost use Rattle.model.specs.Calls.{badMark, checkNumber};
+ghost use Rattle.model.specs.Calls.{badMark};
 ghost use Rattle.store.specs.Ends.{isAbove, endLine, lineMark, Within, sideEnds};
-use crate::bytes::measures_at;
-use crate::bytes::size_of;
-use crate::bytes::u16_at;
+use crate::layout::mark_in;
+use crate::layout::size_of;
 use fields::cells::side_at;
 use fields::numbers::wide;
 use fields::sectors::cells;
@@ -61,11 +60,11 @@ pub fn too_short(st: &[u8], m: Measures) -> bool
 }
 
 // Whether mark k of a store is above a limit.
-fn is_above(st: &[u8], m: Measures, limit: usize, k: usize) -> bool
+fn is_above(st: &[u8], m: Measures, limit: u16, k: usize) -> bool
     requires { ⌜ Accepted m × (sizeOf m ≤ length (now st)) × (k < sectors m * 4) ⌝ }
     ensures { λ r. ⌜ r ≡ isAbove (marksIn m (now (st .entry))) limit k ⌝ }
 {
-    limit < u16_at(st, 4 + 2 * cells(m) + 2 * k)
+    limit < mark_in(st, m, k)
 }
 
 // Whether any mark is above 1,023.
@@ -152,7 +151,7 @@ fn any_end(st: &[u8], m: Measures) -> bool
 }
 
 // Whether any mark of a store is above 1,023, or not 0 on a side without neighbour, which is at the side's end of the floor.
-fn any_bad_mark(st: &[u8], m: Measures) -> bool
+pub fn any_bad_mark(st: &[u8], m: Measures) -> bool
     requires { ⌜ Accepted m × (sizeOf m ≤ length (now st)) ⌝ }
     ensures { λ r. ⌜ r ≡ any (badMark m (marksIn m (now (st .entry)))) (sectors m * 4) ⌝ }
 {
@@ -160,30 +159,4 @@ fn any_bad_mark(st: &[u8], m: Measures) -> bool
         return true;
     }
     any_end(st, m)
-}
-
-// The number of the first refusal that applies to a store, or 0.
-pub fn check_store(st: &[u8]) -> u8
-    ensures { λ r. ⌜ r ≡ checkNumber (now (st .entry)) ⌝ }
-{
-    if st.len() < 4 {
-        return 18;
-    }
-    let m = measures_at(st);
-    if bad_sectors(m) {
-        return 11;
-    }
-    if bad_scale(m) {
-        return 12;
-    }
-    if 0 < st[3] {
-        return 19;
-    }
-    if too_short(st, m) {
-        return 18;
-    }
-    if any_bad_mark(st, m) {
-        return 20;
-    }
-    0
 }

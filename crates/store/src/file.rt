@@ -1,4 +1,4 @@
-// Reading a hall file into a lent list of base costs.
+// A hall file: the tests that are its own, and the base costs that it gives.
 ghost use mathlib.Core.Path.{_≡_};
 ghost use mathlib.Core.Bool.{false, not};
 ghost use Prim.Native.Nat.{_+_, _*_, _≤_, _<_};
@@ -7,18 +7,15 @@ ghost use lib.ListN.{length, replicate};
 ghost use Rattle.laws.specs.Fold.{run};
 ghost use Rattle.laws.specs.Search.{any};
 ghost use Rattle.model.specs.Sectors.{cells};
-ghost use Rattle.model.specs.Store.{measuresAt, entryCount, entryNumber, putEntry};
-ghost use Rattle.model.specs.Calls.{entryOff, readNumber, readAnswer, readInto};
-use crate::bytes::measures_at;
-use crate::bytes::u16_at;
-use crate::check::bad_scale;
-use crate::check::bad_sectors;
-use crate::check::wrong_size;
+ghost use Rattle.model.specs.Store.{measuresAt, entryCount, entryNumber, putEntry, baseIn};
+ghost use Rattle.model.specs.Calls.{entryOff};
+ghost use Rattle.store.specs.Checks.{Readable};
+use crate::reading::measures_at;
+use crate::reading::u16_at;
 use fields::sectors::cells;
-use model::Measured;
 
 // Whether a file counts more than 10,000 entries.
-fn too_many(file: &[u8]) -> bool
+pub fn too_many(file: &[u8]) -> bool
     requires { ⌜ 5 ≤ length (now file) ⌝ }
     ensures { λ r. ⌜ r ≡ ltb 10000 (entryCount (now (file .entry))) ⌝ }
 {
@@ -26,7 +23,7 @@ fn too_many(file: &[u8]) -> bool
 }
 
 // Whether a file is not as long as its entries take.
-fn wrong_length(file: &[u8]) -> bool
+pub fn wrong_length(file: &[u8]) -> bool
     requires { ⌜ 5 ≤ length (now file) ⌝ }
     ensures { λ r. ⌜ r ≡ not (eqb (length (now (file .entry))) (5 + 3 * entryCount (now (file .entry)))) ⌝ }
 {
@@ -42,7 +39,7 @@ fn entry_off(file: &[u8], k: usize) -> bool
 }
 
 // Whether that of any entry is.
-fn any_off(file: &[u8]) -> bool
+pub fn any_off(file: &[u8]) -> bool
     requires { ⌜ 5 + 3 * entryCount (now file) ≤ length (now file) ⌝ }
     ensures { λ r. ⌜ r ≡ any (entryOff (now (file .entry))) (entryCount (now (file .entry))) ⌝ }
 {
@@ -55,35 +52,6 @@ fn any_off(file: &[u8]) -> bool
         k += 1;
     }
     false
-}
-
-// The number of the first refusal that applies to a file and a list of size costs, or 0.
-fn read_number(file: &[u8], size: usize) -> u8
-    ensures { λ r. ⌜ r ≡ readNumber (now (file .entry)) size ⌝ }
-{
-    if file.len() < 5 {
-        return 10;
-    }
-    let m = measures_at(file);
-    if bad_sectors(m) {
-        return 11;
-    }
-    if bad_scale(m) {
-        return 12;
-    }
-    if too_many(file) {
-        return 13;
-    }
-    if wrong_length(file) {
-        return 14;
-    }
-    if any_off(file) {
-        return 15;
-    }
-    if wrong_size(m, size) {
-        return 16;
-    }
-    0
 }
 
 // Puts v in each place.
@@ -118,17 +86,12 @@ fn put_entries(file: &[u8], n: usize, list: &mut [u8])
     }
 }
 
-// Reads a file into a list of base costs. A refusal leaves the list as it was.
-pub fn read_file(file: &[u8], base: &mut [u8]) -> Measured
-    ensures answer { λ r. ⌜ r ≡ readAnswer (now (file .entry)) (length (now (base .entry))) ⌝ }
-    ensures filled { λ _. ⌜ now (base .exit) ≡ readInto (now (file .entry)) (now (base .entry)) ⌝ }
+// Fills a list of base costs from a file that is not refused.
+pub fn fill_from(file: &[u8], base: &mut [u8])
+    requires { ⌜ Readable (now file) (length (now base)) ⌝ }
+    ensures { λ _. ⌜ now (base .exit) ≡ baseIn (now (file .entry)) (length (now (base .entry))) ⌝ }
 {
-    let no = read_number(file, base.len());
-    if no != 0 {
-        return Measured::Refused(no);
-    }
     let n = u16_at(file, 3);
     fill(base, 1);
     put_entries(file, n, base);
-    Measured::Accepted(measures_at(file))
 }

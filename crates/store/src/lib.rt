@@ -1,4 +1,5 @@
 // The bytes of a hall: document 01, "Hall store and hall file".
-pub mod bytes;
 pub mod check;
 pub mod file;
+pub mod layout;
+pub mod reading;

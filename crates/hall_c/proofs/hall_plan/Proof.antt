@@ -1,5 +1,6 @@
 -- `hall_plan` answers what plan answers, flat.
 use mathlib.Core.Path.{ap, _∙_}
+use Rattle.model.specs.Answers.{plan-case}
 use borrow.Author.Needs.{needs}
 use Rattle.hall_c.specs.Answers.{flatMeasures}
 use Rattle.hall_c.proofs.hall_plan.Statement.{statement}
@@ -12,7 +13,7 @@ flat-measures-requires : tie.Need-flat-measures-requires
 flat-measures-requires c κs = search needs
 
 returns : tie.Need-returns
-returns c = c .flat-measures .ensures ∙ ap flatMeasures (c .before .plan .ensures)
+returns c = c .flat-measures .ensures ∙ ap flatMeasures (plan-case _ (c .before .plan .ensures))
 
 pub hall-plan-spec : {M : Type 1} → statement M
 hall-plan-spec = tie.close (tie.spec plan-requires flat-measures-requires returns)

@@ -1,5 +1,6 @@
 -- `hall_windows` answers what windows answers, flat, and leaves the list as that leaves it.
 use mathlib.Core.Path.{ap, _∙_}
+use Rattle.model.specs.Answers.{windows-case}
 use borrow.Author.Needs.{needs}
 use Rattle.hall_c.specs.Answers.{flatWindows}
 use Rattle.hall_c.proofs.hall_windows.Statement.{statement}
@@ -17,7 +18,7 @@ same-length c = search needs
 returns : tie.Need-returns
 returns c =
     let listed = c .before .before .before .windows in
-    (c .flat-windows .ensures ∙ ap flatWindows (listed .ensures .0), listed .ensures .1)
+    (c .flat-windows .ensures ∙ ap flatWindows (windows-case _ _ _ (listed .ensures .0)), listed .ensures .1)
 
 pub hall-windows-spec : {M : Type 1} → statement M
 hall-windows-spec =

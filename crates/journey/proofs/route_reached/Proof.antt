@@ -1,4 +1,5 @@
 -- `route_reached` is the route call; of its answer on a reached hall the theorem speaks.
+use Rattle.model.specs.Answers.{route-case}
 use Rattle.journey.specs.Parts.{answer-claims}
 use borrow.Author.Needs.{needs}
 use Rattle.journey.proofs.route_reached.Statement.{statement}
@@ -11,7 +12,7 @@ same-length : tie.Need-same-length
 same-length c = search needs
 
 returns : tie.Need-returns
-returns c = (search needs, (search needs, answer-claims _ _ _ _ (search needs)))
+returns c = (search (needs, route-case), (search needs, answer-claims _ _ _ _ (search (needs, route-case))))
 
 pub route-reached-spec : {M : Type 1} → statement M
 route-reached-spec = tie.close (tie.spec route-requires same-length returns)

@@ -53,6 +53,7 @@ use Rattle.model.specs.declared.RouteStep.{RouteStep}
 use Rattle.model.specs.declared.Routed.{Routed}
 use Rattle.model.specs.FlatSteps.{stepsIn}
 use Rattle.model.specs.Calls.{routedSteps, routeAnswer, routeSteps}
+use Rattle.model.specs.Answers.{RouteAnswers, route-answers}
 use Rattle.records.specs.Routing.{Flatly, recorded}
 use Rattle.model.proofs.RouteStep as T
 use Rattle.model.proofs.Routed as E
@@ -176,11 +177,11 @@ module _ {M : Type 1} (𝓤 : URA M) (H : Heap 𝓤) (A : Atoms 𝓤) (W : Given
         split ! $ nothing ! $ move ! (2 ∷ 0 ∷ []) $ join ! $ move ! (1 ∷ 0 ∷ []) $ join ! $ frame ! $
         nothing ! $ move ! (2 ∷ 0 ∷ []) $ fjoin ! $ owned ! usize (Is usize) (uint-makes 𝓤 H A W w64) n _ (refl, fits) $ fjoin ! $ move ! (1 ∷ 0 ∷ []) $ fjoin ! $ done !
 
-  exits : (r : Routed) (w : Val) (zs : List RouteStep) → r ≡ routeAnswer st source goal (length ys) → zs ≡ routeSteps st source goal ys → length zs ≡ length ys
+  exits : (r : Routed) (w : Val) (zs : List RouteStep) → RouteAnswers st source goal (length ys) r → zs ≡ routeSteps st source goal ys → length zs ≡ length ys
       → ent 𝓤 (⋆ 𝓤 H A ((‵ (flft κ′ q′) ⊛ ‵ ftrue) ∷ ‵ (finally R γ zs) ∷ ‵ (Q .own r (w ∷ [])) ∷ ‵ (flft κ q) ∷ ‵ (ShrSlice (named 0) κ u8 .own s (sv ∷ [])) ∷ [])) (Post w)
   exits r w zs answer steps long =
       qed W ((‵ (flft κ′ q′) ⊛ ‵ ftrue) ∷ ‵ (finally R γ zs) ∷ ‵ (Q .own r (w ∷ [])) ∷ ‵ (flft κ q) ∷ ‵ (ShrSlice (named 0) κ u8 .own s (sv ∷ [])) ∷ []) ∵
-      suffices ! _ (ends-at 𝓤 H A route-records.ended stayed (route-records.clauses 𝓤 H A at-mem run) W (((κ, (κ′, tt)), (q, (q′, tt)), bounds, x, at), tt) w r (tt, (tt, (tt, (zs, tt)))) (tt, (tt, (tt, (long, tt))))) $ suffices ! _ (assoc∗ 𝓤 (onExit 𝓤 H A route-records.ended stayed (κ, (κ′, tt)) (q, (q′, tt)) at w r x (tt, (tt, (tt, (zs, tt))))) (fact 𝓤 (r ≡ routeAnswer st source goal (length ys))) (fact 𝓤 (zs ≡ routeSteps st source goal ys))) $ says ! steps $ says ! answer $
+      suffices ! _ (ends-at 𝓤 H A route-records.ended stayed (route-records.clauses 𝓤 H A at-mem run) W (((κ, (κ′, tt)), (q, (q′, tt)), bounds, x, at), tt) w r (tt, (tt, (tt, (zs, tt)))) (tt, (tt, (tt, (long, tt))))) $ suffices ! _ (assoc∗ 𝓤 (onExit 𝓤 H A route-records.ended stayed (κ, (κ′, tt)) (q, (q′, tt)) at w r x (tt, (tt, (tt, (zs, tt))))) (fact 𝓤 (RouteAnswers st source goal (length ys) r)) (fact 𝓤 (zs ≡ routeSteps st source goal ys))) $ says ! steps $ says ! answer $
       move ! (3 ∷ 0 ∷ []) $ join ! $ frame ! $
       nothing ! $ move ! (1 ∷ 0 ∷ []) $ fjoin ! $ owned ! usize (Is usize) (uint-makes 𝓤 H A W w64) goal _ (refl, goal-fits) $ fjoin ! $ owned ! usize (Is usize) (uint-makes 𝓤 H A W w64) source _ (refl, source-fits) $ fjoin ! $
       move ! (2 ∷ 0 ∷ []) $ fjoin ! $ frame ! $ done !
@@ -250,7 +251,7 @@ module _ {M : Type 1} (𝓤 : URA M) (H : Heap 𝓤) (A : Atoms 𝓤) (W : Given
         assigns ! (of-opd ! (load ! (from ! (stop !)) (look ! 23 refl))) (from ! (stop !)) (init ! 34 refl typed) $
         returns ! (look ! 34 refl) $ forget ! 0 refl $ forget ! 7 refl $ forget ! 9 refl $ forget ! 11 refl $ forget ! 13 refl $ forget ! 15 refl $ forget ! 17 refl $ forget ! 19 refl $ forget ! 21 refl $ forget ! 23 refl $ forget ! 26 refl $ forget ! 28 refl $ forget ! 30 refl $ forget ! 32 refl $ forget ! 34 refl $
         move ! (34 ∷ 35 ∷ []) $ free1 ! $ move ! (32 ∷ 33 ∷ []) $ free1 ! $ move ! (30 ∷ 31 ∷ []) $ free1 ! $ move ! (28 ∷ 29 ∷ []) $ free1 ! $ move ! (26 ∷ 27 ∷ []) $ free1 ! $ move ! (0 ∷ 25 ∷ []) $ free1 ! $ move ! (22 ∷ 23 ∷ []) $ free1 ! $ move ! (20 ∷ 21 ∷ []) $ free1 ! $ move ! (18 ∷ 19 ∷ []) $ free1 ! $ move ! (16 ∷ 17 ∷ []) $ free1 ! $ move ! (14 ∷ 15 ∷ []) $ free1 ! $ move ! (12 ∷ 13 ∷ []) $ free1 ! $ move ! (10 ∷ 11 ∷ []) $ free1 ! $ move ! (8 ∷ 9 ∷ []) $ free1 ! $ move ! (6 ∷ 7 ∷ []) $ free1 ! $ free0 ! $
-        keep ! (0 ∷ 1 ∷ 3 ∷ 4 ∷ 5 ∷ []) $ by ! (exits r w (zs .1 .1 .0) answer (wrote ∙ ap (λ (k : ℕ). stepsIn k fs ++ past k ys) count ∙ recorded st source goal ys answer fl) same)))))))))))))))))))))))))))))))))))))))))
+        keep ! (0 ∷ 1 ∷ 3 ∷ 4 ∷ 5 ∷ []) $ by ! (exits r w (zs .1 .1 .0) (route-answers st source goal (length ys) answer) (wrote ∙ ap (λ (k : ℕ). stepsIn k fs ++ past k ys) count ∙ recorded st source goal ys answer fl) same)))))))))))))))))))))))))))))))))))))))))
 
 module _ {M : Type 1} (𝓤 : URA M) (H : Heap 𝓤) (A : Atoms 𝓤) (W : Given 𝓤 H A) (at-mem : Memory → SProp 𝓤) (run : Routine → Fun 𝓤) where
   route-records-walks : (𝓣 : Tables 𝓤 H) → FmC 𝓤 H (W .laws) (𝓣 .C) → Triple 𝓤 (𝓣 .C #records·flat-route) (FlatRoute 𝓤 H A at-mem run) → Triple 𝓤 (𝓣 .C #records·steps-of) (StepsOf 𝓤 H A at-mem run) → Triple 𝓤 (𝓣 .C #records·write-records) (WriteRecords 𝓤 H A at-mem run)

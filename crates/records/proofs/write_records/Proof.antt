@@ -1,6 +1,6 @@
 -- `records::write_records` meets its contract: a walk of its MIR, by hand, with a loop. The invariant of the turn i: the lent list has its first i entries from the flat form, and both slices are owned as at entry.
--- In a turn `step_at` is called on a copy of the shared slice, and what it returns is stored at i: the borrow is opened, element i is taken out, written and put back, and the borrow is closed.
--- All that the proof knows of `step_at` is that it meets its contract. Assumes nothing.
+-- In a turn `step_in` is called on a copy of the shared slice, and what it returns is stored at i: the borrow is opened, element i is taken out, written and put back, and the borrow is closed.
+-- All that the proof knows of `step_in` is that it meets its contract. Assumes nothing.
 use mathlib.Core.Path.{_≡_, refl, sym, ap, subst, _∙_}
 use mathlib.Core.Bool.{Bool, true, false}
 use mathlib.Core.WellFounded.{WellFounded, InvImage·wf}
@@ -55,10 +55,10 @@ use Rattle.model.specs.FlatSteps.{stepIn}
 use Rattle.records.specs.Filling.{filled, filled-none, filled-length, filled-next}
 use Rattle.model.proofs.RouteStep as T
 use Rattle.model.proofs.RouteStep.Laws as T′
-use Rattle.records.proofs.step_at as step-at
-use Rattle.records.proofs.step_at.Symbol as step-at-def
-use Rattle.records.proofs.step_at.Symbol.{name as #records·step-at}
-use Rattle.records.proofs.step_at.Met as step-at-thm
+use Rattle.fields.proofs.steps.step_in as step-in
+use Rattle.fields.proofs.steps.step_in.Symbol as step-in-def
+use Rattle.fields.proofs.steps.step_in.Symbol.{name as #fields·step-in}
+use Rattle.fields.proofs.steps.step_in.Met as step-in-thm
 use Rattle.records.proofs.write_records.Key.{name as #records·write-records}
 use Rattle.records.proofs.write_records as write-records
 use Rattle.records.proofs.write_records.Statement as stated
@@ -74,8 +74,8 @@ abbrev stayed : Stays (write-records.ended .signature .params) (write-records.en
 stayed = (stay-none-slice (0 ∷ []) tt (plain (λ _. u8)) yes, (stay-none (λ _. usize) yes, (stay-slice (1 ∷ []) tt (plain (λ _. R)), tt)))
 
 -- the contract that the proof cites
-abbrev StepAt : {M : Type 1} (𝓤 : URA M) (H : Heap 𝓤) (A : Atoms 𝓤) (mem : Memory → SProp 𝓤) (run : Routine → Fun 𝓤) → Contract 𝓤
-StepAt 𝓤 H A mem run = tripleOf 𝓤 H A step-at.signature (step-at.spec 𝓤 H A mem run)
+abbrev StepIn : {M : Type 1} (𝓤 : URA M) (H : Heap 𝓤) (A : Atoms 𝓤) (mem : Memory → SProp 𝓤) (run : Routine → Fun 𝓤) → Contract 𝓤
+StepIn 𝓤 H A mem run = tripleOf 𝓤 H A step-in.signature (step-in.spec 𝓤 H A mem run)
 
 -- the types of the locals, and the code after the loop
 abbrev list-ty : Ty
@@ -124,16 +124,16 @@ module _ {M : Type 1} (𝓤 : URA M) (H : Heap 𝓤) (A : Atoms 𝓤) (W : Given
       feqI ! (List Val) (vunit ∷ []) (vunit ∷ []) refl $ done !
 
   -- the call in turn i
-  abbrev to : ℕ → StepAt 𝓤 H A at-mem run .Ghost
+  abbrev to : ℕ → StepIn 𝓤 H A at-mem run .Ghost
   to i = (((κ, tt), (q, tt), tt, (f, (i, tt)), (fv ∷ [], (vint w64 i ∷ [], tt))), tt)
 
-  goes-to : (i : ℕ) → i < 2 ^ 64 → 6 * i + 5 < length fs → ent 𝓤 (sep 𝓤 (A .lft κ q) (sem 𝓤 H A (ShrSlice (named 0) κ u8 .own f (fv ∷ [])))) (StepAt 𝓤 H A at-mem run .pre (to i))
+  goes-to : (i : ℕ) → i < 2 ^ 64 → 6 * i + 6 ≤ length fs → ent 𝓤 (sep 𝓤 (A .lft κ q) (sem 𝓤 H A (ShrSlice (named 0) κ u8 .own f (fv ∷ [])))) (StepIn 𝓤 H A at-mem run .pre (to i))
   goes-to i fits within =
       qed W (‵ (flft κ q) ∷ ‵ (ShrSlice (named 0) κ u8 .own f (fv ∷ [])) ∷ []) ∵ says ! within $ nothing ! $ move ! (1 ∷ 0 ∷ []) $ join ! $ frame ! $
       nothing ! $ owned ! usize (Is usize) (uint-makes 𝓤 H A W w64) i _ (refl, fits) $ fjoin ! $ move ! (1 ∷ 0 ∷ []) $ fjoin ! $ done !
 
-  said : (i : ℕ) (r : RouteStep) → ent 𝓤 (ensured 𝓤 H A step-at.ended (step-at.clauses 𝓤 H A at-mem run) (κ, tt) (f, (i, tt)) tt r) (fact 𝓤 (r ≡ stepIn fs i))
-  said i r = exE 𝓤 _ (λ ws. snd∗ 𝓤 (sem 𝓤 H A (lasts step-at.ended (κ, tt) (f, (i, tt)) ws)) (fact 𝓤 (r ≡ stepIn fs i)))
+  said : (i : ℕ) (r : RouteStep) → ent 𝓤 (ensured 𝓤 H A step-in.ended (step-in.clauses 𝓤 H A at-mem run) (κ, tt) (f, (i, tt)) tt r) (fact 𝓤 (r ≡ stepIn fs i))
+  said i r = exE 𝓤 _ (λ ws. snd∗ 𝓤 (sem 𝓤 H A (lasts step-in.ended (κ, tt) (f, (i, tt)) ws)) (fact 𝓤 (r ≡ stepIn fs i)))
 
   abbrev Upto : Type 0
   Upto = (i : ℕ) × (i ≤ n)
@@ -144,7 +144,7 @@ module _ {M : Type 1} (𝓤 : URA M) (H : Heap 𝓤) (A : Atoms 𝓤) (W : Given
   Nearer-wf : WellFounded Nearer
   Nearer-wf = InvImage·wf (λ (i : Upto). n - i .0) (Nat·lt-wfRel .wf)
 
-  module _ (𝓣 : Tables 𝓤 H) (fm : FmC 𝓤 H (W .laws) (𝓣 .C)) (known : Triple 𝓤 (𝓣 .C #records·step-at) (StepAt 𝓤 H A at-mem run)) (l₀ l₁ l₂ l₃ l₄ l₅ l₆ l₇ l₈ : ℕ) where
+  module _ (𝓣 : Tables 𝓤 H) (fm : FmC 𝓤 H (W .laws) (𝓣 .C)) (known : Triple 𝓤 (𝓣 .C #fields·step-in) (StepIn 𝓤 H A at-mem run)) (l₀ l₁ l₂ l₃ l₄ l₅ l₆ l₇ l₈ : ℕ) where
     abbrev C : Calls 𝓤 H
     C = 𝓣 .C
 
@@ -172,7 +172,7 @@ module _ {M : Type 1} (𝓤 : URA M) (H : Heap 𝓤) (A : Atoms 𝓤) (W : Given
     more i less =
         let k = i .0 in
         let l : k < n = ltb-true k n less in
-        let within : 6 * k + 5 < length fs = omega arith in
+        let within : 6 * k + 6 ≤ length fs = omega arith in
         let inside : k < length (zs k) = subst (λ (m : ℕ). k < m) (sym (long k (i .1))) (omega arith) in
         let wide : length ys * 6 < 2 ^ 63 = room .1 in
         let far : k * 6 < 2 ^ 64 = omega arith in
@@ -180,9 +180,9 @@ module _ {M : Type 1} (𝓤 : URA M) (H : Heap 𝓤) (A : Atoms 𝓤) (W : Given
         assigns ! (bin ! (load ! (from ! (stop !)) (look ! 8 refl)) (load ! (from ! (stop !)) (look ! 12 refl)) tt) (from ! (stop !)) (init ! 6 refl (tt, tt)) $
         rewrite ! 6 (λ (t : Bool). ‵ (fat fullShare tyBool l₅ 0 (vbool t))) less refl $ stays ! (load ! (from ! (stop !)) (look ! 6 refl)) $
         move ! (22 ∷ []) $ use1 W (‵ (ShrSlice (named 0) κ u8 .own f (fv ∷ [])) ⊛ ‵ (ShrSlice (named 0) κ u8 .own f (fv ∷ []))) (shr-slice-copy 𝓤 H A W (named 0) κ u8 .twice f (fv ∷ [])) $ split ! $
-        move ! (23 ∷ 0 ∷ []) $ use2 W (raw (StepAt 𝓤 H A at-mem run .pre (to k))) (goes-to k (omega arith) within) $
-        calls-at ! fm (StepAt 𝓤 H A at-mem run) known (to k) (and-then ! (load ! (from ! (stop !)) (look ! 16 refl)) (and-then ! (load ! (from ! (stop !)) (look ! 10 refl)) (no-more !))) (λ w.
-        use1 W (later (some (λ (r : RouteStep). ((‵ (flft κ q) ⊛ ‵ ftrue) ⊛ ‵ (R .own r (w ∷ []))) ⊛ raw (ensured 𝓤 H A step-at.ended (step-at.clauses 𝓤 H A at-mem run) (κ, tt) (f, (k, tt)) tt r)))) (id⊢ 𝓤 _) $ await ! tt $ pick ! (λ r.
+        move ! (23 ∷ 0 ∷ []) $ use2 W (raw (StepIn 𝓤 H A at-mem run .pre (to k))) (goes-to k (omega arith) within) $
+        calls-at ! fm (StepIn 𝓤 H A at-mem run) known (to k) (and-then ! (load ! (from ! (stop !)) (look ! 16 refl)) (and-then ! (load ! (from ! (stop !)) (look ! 10 refl)) (no-more !))) (λ w.
+        use1 W (later (some (λ (r : RouteStep). ((‵ (flft κ q) ⊛ ‵ ftrue) ⊛ ‵ (R .own r (w ∷ []))) ⊛ raw (ensured 𝓤 H A step-in.ended (step-in.clauses 𝓤 H A at-mem run) (κ, tt) (f, (k, tt)) tt r)))) (id⊢ 𝓤 _) $ await ! tt $ pick ! (λ r.
         split ! $ move ! (1 ∷ []) $ use1 W (raw (fact 𝓤 (r ≡ stepIn fs k))) (said k r) $ heard ! (r ≡ stepIn fs k) (λ e. split ! $ move ! (1 ∷ []) $ peeks ! R (Is R) (shows 𝓤 H A R) r (w ∷ []) (λ is.
         -- [what r owns; the token; the slice; _8; …; _7; …; _6; …; _5; …; _4; …; _3; …; _2; …; _1; …; _0; …; obs; the borrow; its token]
         land ! (from ! (stop !)) (init ! 7 refl (LL.lawful T.the-type T′.the-laws 𝓤 H A W .typed r _ is .0)) $
@@ -218,7 +218,7 @@ module _ {M : Type 1} (𝓤 : URA M) (H : Heap 𝓤) (A : Atoms 𝓤) (W : Given
         go true e = more i e
         go false e = ends i e
 
-  walk : (𝓣 : Tables 𝓤 H) → FmC 𝓤 H (W .laws) (𝓣 .C) → Triple 𝓤 (𝓣 .C #records·step-at) (StepAt 𝓤 H A at-mem run) → ent 𝓤 (onEntry 𝓤 H A write-records.signature (κ, (κ′, tt)) (q, (q′, tt)) x at) (WpFn 𝓤 H (𝓣 .C) (𝓣 .Λ) code.function (fv ∷ vint w64 n ∷ s ∷ []) Post)
+  walk : (𝓣 : Tables 𝓤 H) → FmC 𝓤 H (W .laws) (𝓣 .C) → Triple 𝓤 (𝓣 .C #fields·step-in) (StepIn 𝓤 H A at-mem run) → ent 𝓤 (onEntry 𝓤 H A write-records.signature (κ, (κ′, tt)) (q, (q′, tt)) x at) (WpFn 𝓤 H (𝓣 .C) (𝓣 .Λ) code.function (fv ∷ vint w64 n ∷ s ∷ []) Post)
   walk 𝓣 fm known =
       qed W ((‵ (flft κ q) ⊛ ‵ (flft κ′ q′) ⊛ ‵ ftrue) ∷ ‵ (owns (ShrSlice (named 0) κ u8 ∷ usize ∷ MutSlice (named 1) κ′ R ∷ []) x at) ∷ []) ∵ enter ! (𝓣 .C) (𝓣 .Λ) code.function (fv ∷ vint w64 n ∷ s ∷ []) _ $
       alloc1 ! (λ l₀. alloc1 ! (λ l₁. alloc1 ! (λ l₂. alloc1 ! (λ l₃. alloc1 ! (λ l₄. alloc1 ! (λ l₅. alloc1 ! (λ l₆. alloc1 ! (λ l₇. alloc1 ! (λ l₈. alloc0 ! $ params1 ! $
@@ -235,7 +235,7 @@ module _ {M : Type 1} (𝓤 : URA M) (H : Heap 𝓤) (A : Atoms 𝓤) (W : Given
       first ! $ blocks ! $ loops ! 𝓣 Nearer Nearer-wf (At 𝓣 fm known l₀ l₁ l₂ l₃ l₄ l₅ l₆ l₇ l₈) (turns 𝓣 fm known l₀ l₁ l₂ l₃ l₄ l₅ l₆ l₇ l₈) (0, zero-le))))))))))
 
 module _ {M : Type 1} (𝓤 : URA M) (H : Heap 𝓤) (A : Atoms 𝓤) (W : Given 𝓤 H A) (at-mem : Memory → SProp 𝓤) (run : Routine → Fun 𝓤) where
-  write-records-walks : (𝓣 : Tables 𝓤 H) → FmC 𝓤 H (W .laws) (𝓣 .C) → Triple 𝓤 (𝓣 .C #records·step-at) (StepAt 𝓤 H A at-mem run) → Walks 𝓤 H A write-records.ended stayed (WpFn 𝓤 H (𝓣 .C) (𝓣 .Λ) code.function) (write-records.clauses 𝓤 H A at-mem run)
+  write-records-walks : (𝓣 : Tables 𝓤 H) → FmC 𝓤 H (W .laws) (𝓣 .C) → Triple 𝓤 (𝓣 .C #fields·step-in) (StepIn 𝓤 H A at-mem run) → Walks 𝓤 H A write-records.ended stayed (WpFn 𝓤 H (𝓣 .C) (𝓣 .Λ) code.function) (write-records.clauses 𝓤 H A at-mem run)
   write-records-walks 𝓣 fm known = walked 𝓤 H A write-records.ended stayed (write-records.clauses 𝓤 H A at-mem run) (WpFn 𝓤 H (𝓣 .C) (𝓣 .Λ) code.function) (λ κs. (slice-vals, (uint-vals w64, (slice-vals, tt)))) (λ κs. (shr-slice-tells (named 0) (κs .0) u8, (uint-tells w64, (mut-slice-tells (named 1) (κs .1 .0) R, tt))))
       (λ κs qs bounds a g are. needs 𝓤 ((a .1 .0 ≤ length (now (a .1 .1 .0))) × (6 * a .1 .0 ≤ length (now (a .0)))) _ (λ asked.
       walk 𝓤 H A W at-mem run (κs .0) (κs .1 .0) bounds (qs .0) (qs .1 .0) (a .0) (a .1 .0) (a .1 .1 .0 .ptr .0) (a .1 .1 .0 .ptr .1) (a .1 .1 .0 .name) (a .1 .1 .0 .now) (are .0 .0 .1) (are .1 .0 .1) (are .1 .1 .0 .0 .1) (asked .0) (asked .1) 𝓣 fm known))
@@ -243,7 +243,7 @@ module _ {M : Type 1} (𝓤 : URA M) (H : Heap 𝓤) (A : Atoms 𝓤) (W : Given
   goes : AllGo 𝓤 H A W 2 (write-records.signature .params) (write-records.ended .kept) stayed
   goes = (goes-none-slice 𝓤 H A W 2 (0 ∷ []) tt (plain (λ _. u8)) yes, (goes-none 𝓤 H A W 2 (λ _. usize) yes (λ κs x f. refl), (goes-slice 𝓤 H A W 2 1 tt (plain (λ _. R)), tt)))
 
-write-records-meets : {M : Type 1} (𝓤 : URA M) (H : Heap 𝓤) (A : Atoms 𝓤) (W : Given 𝓤 H A) (at-mem : Memory → SProp 𝓤) (run : Routine → Fun 𝓤) (𝓣 : Tables 𝓤 H) → Triple 𝓤 (𝓣 .C #records·step-at) (StepAt 𝓤 H A at-mem run)
+write-records-meets : {M : Type 1} (𝓤 : URA M) (H : Heap 𝓤) (A : Atoms 𝓤) (W : Given 𝓤 H A) (at-mem : Memory → SProp 𝓤) (run : Routine → Fun 𝓤) (𝓣 : Tables 𝓤 H) → Triple 𝓤 (𝓣 .C #fields·step-in) (StepIn 𝓤 H A at-mem run)
     → Meets 𝓤 H A write-records.signature (WpFn 𝓤 H (𝓣 .C) (𝓣 .Λ) code.function) (write-records.spec 𝓤 H A at-mem run)
 write-records-meets 𝓤 H A W at-mem run 𝓣 known = walk-meets 𝓤 H A write-records.ended stayed W (goes 𝓤 H A W at-mem run) (write-records.clauses 𝓤 H A at-mem run) (WpFn 𝓤 H (𝓣 .C) (𝓣 .Λ) code.function) (WpFn-mono 𝓤 H (W .laws) 𝓣 code.function)
     (write-records-walks 𝓤 H A W at-mem run 𝓣 (fmOf 𝓤 H (W .laws) 𝓣) known)
@@ -254,4 +254,4 @@ write-records-spec 𝓤 H 𝓜 𝓖 𝓡 =
     entered 𝓤 H (tripleOf 𝓤 H (𝓖 .A) write-records.signature (write-records.spec 𝓤 H (𝓖 .A) (𝓜 .mem) (𝓡 .run)))
     (tables 𝓤 H 𝓜 𝓡 code.env .C) (tables 𝓤 H 𝓜 𝓡 code.env .Λ) #records·write-records code.function (code.unfolded 𝓤 H 𝓜 𝓡)
     (write-records-meets 𝓤 H (𝓖 .A) (givenOf 𝓤 H 𝓜 𝓖) (𝓜 .mem) (𝓡 .run) (tablesOf 𝓤 H 𝓜 (tables 𝓤 H 𝓜 𝓡 code.env))
-    (cited 𝓤 H (StepAt 𝓤 H (𝓖 .A) (𝓜 .mem) (𝓡 .run)) 𝓜 𝓡 code.env #records·step-at step-at-def.routine code.calls-records·step-at (step-at-thm.met 𝓤 H 𝓜 𝓖 𝓡)))
+    (cited 𝓤 H (StepIn 𝓤 H (𝓖 .A) (𝓜 .mem) (𝓡 .run)) 𝓜 𝓡 code.env #fields·step-in step-in-def.routine code.calls-fields·steps·step-in (step-in-thm.met 𝓤 H 𝓜 𝓖 𝓡)))

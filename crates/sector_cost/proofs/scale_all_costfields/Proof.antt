@@ -3,7 +3,7 @@ use mathlib.Core.Path.{_≡_, sym, _∙_}
 use denote.Ref.{now}
 use Rattle.model.specs.Scaling.{scaleFloor}
 use Rattle.model.specs.ScaleOne.{floor-one}
-use Rattle.sector_cost.specs.Copies.{copied}
+use Rattle.laws.specs.Region.{copied}
 use Rattle.sector_cost.specs.Showing.{showing-none}
 use borrow.Author.Needs.{needs}
 use Rattle.sector_cost.proofs.scale_all_costfields.Statement.{statement}

@@ -1,5 +1,6 @@
 -- `pair_line` writes the text of a pair: what the route call answers and lists, as a line.
 use Rattle.listing.specs.Pair.{pair-line}
+use Rattle.model.specs.Answers.{route-case}
 use borrow.Author.Needs.{needs}
 use Rattle.hallroute.proofs.lines.pair_line.Statement.{statement}
 use Rattle.hallroute.proofs.lines.pair_line.Tie as tie
@@ -8,7 +9,7 @@ route-requires : tie.Need-route-requires
 route-requires c κs = search needs
 
 line-of-requires : tie.Need-line-of-requires
-line-of-requires c κs = search (needs, pair-line)
+line-of-requires c κs = search (needs, pair-line, route-case)
 
 same-length : tie.Need-same-length
 same-length c = search needs
@@ -17,7 +18,7 @@ same-length-2 : tie.Need-same-length-2
 same-length-2 c = search needs
 
 returns : tie.Need-returns
-returns c = search (needs, pair-line)
+returns c = search (needs, pair-line, route-case)
 
 pub pair-line-spec : {M : Type 1} → statement M
 pair-line-spec =

@@ -3,7 +3,7 @@ use Prim.Native.Nat.{_-_}
 use mathlib.Core.List.{[]}
 use Rattle.laws.specs.Search.{Clear, seeking}
 use Rattle.parts.specs.Around.{placeExceeds}
-use Rattle.parts.specs.Parts.{hallOf}
+use Rattle.store.specs.Layout.{hallOf}
 use Rattle.parts.proofs.Around.{places-exceed}
 use borrow.Author.Needs.{needs}
 use Rattle.parts.proofs.changing.any_exceeds.Statement.{statement}

@@ -5,7 +5,7 @@ use Rattle.laws.specs.Search.{Clear, seeking}
 use Rattle.model.specs.Cells.{sideAt}
 use Rattle.model.specs.Change.{exceedsAt}
 use Rattle.parts.specs.Around.{sectorExceeds}
-use Rattle.parts.specs.Parts.{hallOf}
+use Rattle.store.specs.Layout.{hallOf}
 use borrow.Author.Needs.{needs}
 use Rattle.parts.proofs.changing.sector_exceeds.Statement.{statement}
 use Rattle.parts.proofs.changing.sector_exceeds.Tie as tie

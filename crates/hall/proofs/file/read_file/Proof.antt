@@ -1,0 +1,42 @@
+-- `read_file` answers and fills as a read does: refused, the list is as it was.
+use native.Mathlib.Omega.{arith}
+use denote.Ref.{now}
+use Rattle.hall.proofs.Reading.{read-refused, read-on, read-accepted}
+use borrow.Author.Needs.{needs}
+use Rattle.hall.proofs.file.read_file.Statement.{statement}
+use Rattle.hall.proofs.file.read_file.Tie as tie
+
+read-number-requires : tie.Need-read-number-requires
+read-number-requires c κs = search needs
+
+returns : tie.Need-returns
+returns c = read-refused _ _ _ (c .before .read-number .ensures) (c .if1 .taken)
+
+fill-from-requires : tie.Need-fill-from-requires
+fill-from-requires c κs = search (needs, read-on)
+
+measures-at-requires : tie.Need-measures-at-requires
+measures-at-requires c κs =
+    let f = c .before .before .before .before in
+    let args = f .before .before .before .before .args in
+    omega (arith, read-on (now (args .file)) (now (args .base)) _ (f .before .read-number .ensures) (f .if1 .left) .head)
+
+same-length : tie.Need-same-length
+same-length c = search needs
+
+returns-2 : tie.Need-returns-2
+returns-2 c =
+    let f = c .before .before .before in
+    let n = f .before .before in
+    read-accepted _ _ _ (n .before .read-number .ensures) (n .if1 .left) (c .measures-at .ensures) (f .fill-from .ensures)
+
+pub read-file-spec : {M : Type 1} → statement M
+read-file-spec =
+    tie.close
+    (tie.spec
+    read-number-requires
+    returns
+    fill-from-requires
+    measures-at-requires
+    same-length
+    returns-2)

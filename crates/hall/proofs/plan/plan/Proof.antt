@@ -1,0 +1,65 @@
+-- `plan` answers as a plan does: each return is a rung of its ladder.
+use lib.Ieee.{ofBits}
+use borrow.Author.Needs.{needs}
+use Rattle.laws.specs.Ladder.{ladder}
+use Rattle.model.specs.Calls.{measureNumber, planNumber, planAnswer}
+use Rattle.model.specs.Answers.{plan-answers}
+use Rattle.hall.proofs.Rungs.{rungs}
+use Rattle.hall.proofs.plan.plan.Statement.{statement}
+use Rattle.hall.proofs.plan.plan.Tie as tie
+
+value-number-requires : tie.Need-value-number-requires
+value-number-requires c κs = search needs
+
+returns : tie.Need-returns
+unfolding planAnswer planNumber measureNumber ofBits
+returns c = plan-answers _ (search (ladder, rungs) depth 9)
+
+returns-2 : tie.Need-returns-2
+unfolding planAnswer planNumber measureNumber ofBits
+returns-2 c = plan-answers _ (search (ladder, rungs) depth 9)
+
+returns-3 : tie.Need-returns-3
+unfolding planAnswer planNumber measureNumber ofBits
+returns-3 c = plan-answers _ (search (ladder, rungs) depth 9)
+
+whole-near-requires : tie.Need-whole-near-requires
+whole-near-requires c κs = search needs
+
+returns-4 : tie.Need-returns-4
+unfolding planAnswer planNumber measureNumber ofBits
+returns-4 c = plan-answers _ (search (ladder, rungs) depth 9)
+
+returns-5 : tie.Need-returns-5
+unfolding planAnswer planNumber measureNumber ofBits
+returns-5 c = plan-answers _ (search (ladder, rungs) depth 9)
+
+whole-near-requires-2 : tie.Need-whole-near-requires-2
+whole-near-requires-2 c κs = search needs
+
+whole-near-requires-3 : tie.Need-whole-near-requires-3
+whole-near-requires-3 c κs = search needs
+
+returns-6 : tie.Need-returns-6
+unfolding planAnswer planNumber measureNumber ofBits
+returns-6 c = plan-answers _ (search (ladder, rungs) depth 9)
+
+returns-7 : tie.Need-returns-7
+unfolding planAnswer planNumber measureNumber ofBits
+returns-7 c = plan-answers _ (search (ladder, rungs) depth 9)
+
+pub plan-spec : {M : Type 1} → statement M
+plan-spec =
+    tie.close
+    (tie.spec
+    value-number-requires
+    returns
+    returns-2
+    returns-3
+    whole-near-requires
+    returns-4
+    returns-5
+    whole-near-requires-2
+    whole-near-requires-3
+    returns-6
+    returns-7)
