@@ -4,7 +4,7 @@ use mathlib.Core.List.{[], _∷_, _++_}
 use lib.ListN.{getD, set}
 use Rattle.model.specs.declared.Routed.the-variants.{Route}
 use Rattle.model.specs.Calls.{changeNumber, changeInto, routeAnswer}
-use Rattle.model.specs.Listing.{text, hallroute}
+use Rattle.model.specs.Hallroute.{text, hallroute}
 use Rattle.model.specs.Computing.{computing}
 use Rattle.audit.specs.Starred.{hall, floor, scaled, store, file, pair}
 

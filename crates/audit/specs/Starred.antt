@@ -15,7 +15,7 @@ use Rattle.model.specs.Scaling.{scaleFloor}
 use Rattle.model.specs.Windows.{marksOf, crossing}
 use Rattle.model.specs.Store.{sizeOf, markBytes}
 use Rattle.model.specs.Calls.{planAnswer, buildNumber, buildInto, checkNumber, changeNumber, routeAnswer, windowsFlat}
-use Rattle.model.specs.Listing.{text, hallroute}
+use Rattle.model.specs.Hallroute.{text, hallroute}
 use Rattle.model.specs.Computing.{computing}
 
 -- ---- how the floors are written down

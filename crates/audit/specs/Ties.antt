@@ -2,7 +2,7 @@
 use Prim.Native.Nat.{ℕ}
 use mathlib.Core.Path.{_≡_, refl}
 use mathlib.Core.List.{List, [], _∷_, _++_}
-use Rattle.model.specs.Listing.{text, hallroute}
+use Rattle.model.specs.Hallroute.{text, hallroute}
 use Rattle.model.specs.Computing.{computing}
 use Rattle.audit.specs.Starred.{hall, file, pair}
 

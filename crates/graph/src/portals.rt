@@ -7,20 +7,20 @@ ghost use Rattle.model.specs.Portals.{sectorPortals, portalSector, portalSide, 
 ghost use Rattle.model.specs.Store.{decode};
 ghost use Rattle.graph.specs.EdgeTable.{Opened, bare};
 ghost use Rattle.graph.specs.Reading.{Places};
-use fields::cells::opposite;
-use fields::cells::side_at;
-use fields::cells::side_number;
 use fields::numbers::wide;
 use fields::sectors::beyond;
 use fields::sectors::sectors;
+use fields::sides::opposite;
+use fields::sides::side_at;
+use fields::sides::side_number;
 use model::Measures;
 use model::PortalWindow;
 use model::Side;
 use portal::border::border_index;
-use portal::listing::window_of;
 use portal::runs::OpenRun;
 use portal::runs::window_at;
 use portal::runs::window_count;
+use portal::windows::window_of;
 use store::layout::mark_in;
 
 // How many numbers for portals a side and a sector have, and how many arcs a sector: as many for each of its numbers.

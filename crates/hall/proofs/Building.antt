@@ -11,7 +11,7 @@ use Rattle.model.specs.Accepted.{accepted}
 use Rattle.model.specs.Store.{sizeOf, written}
 use Rattle.model.specs.Calls.{ifAccepted, buildNumber, built, buildInto}
 use Rattle.store.specs.Checks.{not-different}
-use Rattle.parts.specs.Parts.{Buildable}
+use Rattle.builder.specs.Parts.{Buildable}
 use Rattle.hall.proofs.Passed.{none, not-accepted}
 
 module _ (m : Measures) (base st : List ℕ) {r : ℕ} (is : r ≡ buildNumber m base st) where

@@ -11,7 +11,7 @@ use Rattle.model.specs.Sectors.{cells}
 use Rattle.model.specs.Store.{measuresAt, decode, written}
 use Rattle.model.specs.Change.{changed}
 use Rattle.model.specs.Calls.{orElse, checkNumber, alterNumber, changeNumber, changeInto}
-use Rattle.parts.specs.Parts.{Changeable, alteredNumber, alteredInto}
+use Rattle.builder.specs.Parts.{Changeable, alteredNumber, alteredInto}
 use Rattle.hall.proofs.Passed.{none, not-accepted, refused-first, passed}
 
 module _ (st : List ℕ) (n cost : ℕ) where

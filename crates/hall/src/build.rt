@@ -1,8 +1,8 @@
 // The build call.
 ghost use mathlib.Core.Path.{_≡_};
 ghost use Rattle.model.specs.Calls.{measuresOf, buildNumber, buildInto};
+use builder::build::build_hall;
 use model::Measures;
-use parts::building::build_hall;
 use store::check::bad_scale;
 use store::check::bad_sectors;
 use store::check::too_short;

@@ -2,8 +2,8 @@
 ghost use mathlib.Core.Path.{_≡_};
 ghost use Rattle.model.specs.Calls.{changeNumber, changeInto};
 use crate::check::check_store;
+use builder::change::change_hall;
 use fields::sectors::cells;
-use parts::changing::change_hall;
 use store::reading::measures_at;
 
 // Changes the cost of a cell. A refusal leaves the store as it was; bytes past the hall's size stay.

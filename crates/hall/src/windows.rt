@@ -8,8 +8,8 @@ use crate::check::check_store;
 use fields::numbers::byte;
 use fields::sectors::sectors;
 use model::Listed;
-use portal::listing::sector_windows;
-use portal::listing::windows_number;
+use portal::windows::sector_windows;
+use portal::windows::windows_number;
 use store::layout::sector_marks;
 use store::reading::measures_at;
 

@@ -8,10 +8,10 @@ use lib.ListN.{length, getD, take, drop, drop-of-length-le, length-drop, length-
 use lib.Seq.{drop-cons, take-at}
 use Rattle.laws.specs.Table.{tabulate}
 use Rattle.model.specs.Store.{u16At}
-use Rattle.model.specs.Listing.{text, decimal, pairLines}
+use Rattle.model.specs.Hallroute.{text, decimal, pairLines}
 use Rattle.io.specs.Counts.{Counts}
 use Rattle.io.proofs.Counting.{counts}
-use Rattle.listing.specs.Written.{Wrote, wrote-length, wrote-first, wrote-on}
+use Rattle.cards.specs.Written.{Wrote, wrote-length, wrote-first, wrote-on}
 use Rattle.hallroute.specs.Printed.{pairLine}
 
 -- a text at the front of a buffer

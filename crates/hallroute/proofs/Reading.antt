@@ -13,7 +13,7 @@ use Rattle.model.specs.Sectors.{cells}
 use Rattle.model.specs.Store.{u16At, measuresAt, sizeOf, baseIn}
 use Rattle.model.specs.Accepted.{many-sectors, good-sectors, good-scale}
 use Rattle.model.specs.Calls.{measured, ifAccepted, readNumber, readAnswer, readInto, buildNumber, buildInto}
-use Rattle.model.specs.Listing.{fileSize}
+use Rattle.model.specs.Hallroute.{fileSize}
 use Rattle.store.specs.Checks.{readable}
 use Rattle.hall.proofs.Passed.{not-accepted}
 use Rattle.io.specs.Counts.{Counts}

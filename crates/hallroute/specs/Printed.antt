@@ -23,7 +23,7 @@ use Rattle.model.specs.StoreLayout.{Laid, length-encode, decode-written}
 use Rattle.model.specs.Accepted.{badSectors, badScale}
 use Rattle.model.specs.Calls.{badMark, ifAccepted, checkNumber, built}
 use Rattle.model.specs.Route.{routeOf}
-use Rattle.model.specs.Listing.{text, decimal, pairText, pairLines, fileSize, hallLines, fileLines, hallroute}
+use Rattle.model.specs.Hallroute.{text, decimal, pairText, pairLines, fileSize, hallLines, fileLines, hallroute}
 use Rattle.hallroute.specs.Opening.{fileNumber, fileHall, openInto}
 
 -- the line of a pair

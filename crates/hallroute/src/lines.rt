@@ -3,14 +3,14 @@ ghost use mathlib.Core.Path.{_≡_};
 ghost use mathlib.Core.List.{_++_};
 ghost use Prim.Native.Nat.{_+_, _≤_, _<_};
 ghost use lib.ListN.{length, take, drop};
-ghost use Rattle.model.specs.Listing.{text, decimal, pairLines};
+ghost use Rattle.model.specs.Hallroute.{text, decimal, pairLines};
 ghost use Rattle.io.specs.Counts.{Counts};
 ghost use Rattle.hallroute.specs.Printed.{pairLine};
+use cards::decimal::put_small;
+use cards::lines::line_of;
+use cards::text::put_byte;
+use cards::text::put_text;
 use hall::routing::route;
-use listing::decimal::put_small;
-use listing::lines::line_of;
-use listing::text::put_byte;
-use listing::text::put_text;
 use store::reading::u16_at;
 
 // The line of a pair, from the first byte on, and how long it is. The list holds 1,001 steps.

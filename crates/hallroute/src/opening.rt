@@ -2,7 +2,7 @@
 ghost use mathlib.Core.Path.{_≡_};
 ghost use Prim.Native.Nat.{_≤_};
 ghost use lib.ListN.{length};
-ghost use Rattle.model.specs.Listing.{fileSize};
+ghost use Rattle.model.specs.Hallroute.{fileSize};
 ghost use Rattle.model.specs.Calls.{readNumber};
 ghost use Rattle.io.specs.Counts.{Counts};
 ghost use Rattle.hallroute.specs.Opening.{fileNumber, openInto};

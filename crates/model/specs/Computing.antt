@@ -31,7 +31,7 @@ use Rattle.model.specs.Calls.{orElse, ifAccepted, measured, valueNumber,
 use Rattle.model.specs.Calls.{buildNumber, built, buildInto, badMark, checkNumber, alterNumber, changeNumber, changeInto}
 use Rattle.model.specs.Calls.{stepList, foundNumber, routeNumber, routed, routeAnswer, routeSteps, routeFlat}
 use Rattle.model.specs.Calls.{windowsFrom, flatWindows, windowsNumber, listed, windowsAnswer, windowsFlat, storeAfterCall, storeAfter}
-use Rattle.model.specs.Listing.{digits, windowText, stepText, stepsText, answerText, pairText, pairLines, fileSize, hallLines, fileLines, hallroute}
+use Rattle.model.specs.Hallroute.{digits, windowText, stepText, stepsText, answerText, pairText, pairLines, fileSize, hallLines, fileLines, hallroute}
 
 unfoldable in-lists : Unit {0}
 unfolding mul div lt le ofBits run bit first any passing refuse region within tabulate offers relaxed swept total sweeps outset least-costs tight better closer next path flatMap pairs beat winner

@@ -38,5 +38,5 @@ pub mod StoreLayout
 pub mod Calls
 pub mod FewSteps
 pub mod Answers
-pub mod Listing
+pub mod Hallroute
 pub mod Computing

@@ -20,7 +20,7 @@ use Rattle.model.specs.Sides.{side-low}
 use Rattle.model.specs.Calls.{flatWindows}
 use Rattle.portal.specs.declared.runs.OpenRun.{OpenRun}
 use Rattle.portal.specs.Runs.{placesOf}
-use Rattle.portal.specs.Listing.{windowsBy, FourMarks, over, length-by, few-by}
+use Rattle.portal.specs.SectorWindows.{windowsBy, FourMarks, over, length-by, few-by}
 
 -- ---- an entry
 module _ {mark j : ℕ} {run : OpenRun} (e : run ≡ placesOf mark j) (m : mark ≤ 1023) (h : j < windowCount mark) where

@@ -1,4 +1,4 @@
 pub mod Border
 pub mod Runs
 pub mod Marks
-pub mod Listing
+pub mod SectorWindows

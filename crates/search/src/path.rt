@@ -11,9 +11,9 @@ ghost use Rattle.model.specs.LeastPath.{unlinked, cellRank, nodeRank, keysTo, l
 ghost use Rattle.model.specs.Store.{decode};
 ghost use Rattle.graph.specs.EdgeTable.{Opened, tableGraph};
 ghost use Rattle.search.specs.Following.{Linked, Best};
-use fields::cells::side_number;
 use fields::sectors::SECTOR_CELLS;
 use fields::sectors::sectors;
+use fields::sides::side_number;
 use graph::portals::SECTOR_PORTALS;
 use graph::portals::head_of;
 use graph::portals::portal_run;

@@ -1,8 +1,8 @@
 // Scaling, and rescaling around a changed cell: document 01, item 7 and "A change". Costs are lists by floor number; walks go over the board.
-pub mod board;
-pub mod copies;
+mod board;
+mod copies;
 pub mod nearby;
-pub mod walks;
+mod walks;
 
 ghost use mathlib.Core.Path.{_≡_};
 ghost use Prim.Native.Nat.{_+_, _*_, _≤_, _<_};

@@ -12,10 +12,10 @@ ghost use Rattle.model.specs.Calls.{badMark};
 ghost use Rattle.store.specs.Ends.{isAbove, endLine, lineMark, Within, sideEnds};
 use crate::layout::mark_in;
 use crate::layout::size_of;
-use fields::cells::side_at;
 use fields::numbers::wide;
 use fields::sectors::cells;
 use fields::sectors::sectors;
+use fields::sides::side_at;
 use model::Measures;
 use model::Side;
 

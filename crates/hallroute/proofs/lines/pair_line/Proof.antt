@@ -1,5 +1,5 @@
 -- `pair_line` writes the text of a pair: what the route call answers and lists, as a line.
-use Rattle.listing.specs.Pair.{pair-line}
+use Rattle.cards.specs.Pair.{pair-line}
 use Rattle.model.specs.Answers.{route-case}
 use borrow.Author.Needs.{needs}
 use Rattle.hallroute.proofs.lines.pair_line.Statement.{statement}
