@@ -2,14 +2,12 @@
 -- `within` has the shape that the borrow checker gives a list whose part `&mut s[a..a + n]` came back from a call (`putMid`).
 use mathlib.Core.Path.{_≡_, refl, sym, ap, _∙_}
 use mathlib.Core.List.{List, [], _∷_, _++_, append-nil}
-use Prim.Native.Nat.{ℕ, zero, suc, _+_, _-_, _≤_, _<_}
+use Prim.Native.Nat.{ℕ, _+_, _-_, _≤_, _<_}
 use native.Mathlib.Nat.{add-zero, add-assoc, add-sub-cancel-left, not-suc-le-zero, le-of-suc-le-suc}
-use native.Mathlib.Numerals.{add-one}
 use native.Mathlib.Omega.{arith}
 use lib.ListN.{length, take, drop, getD, set, length-append, length-take, length-drop, take-append-drop, drop-of-length-le}
 use lib.Seq.{take-at, drop-at, take-append-le, drop-append-le, drop-drop, getD-take, getD-drop, length-take-le, take-all, ext-getD}
 use borrow.Rule.Slice.PartMut.{set-mid-at, putMid}
-use Rattle.laws.specs.Fold.{run, run-length, Ran, ran-none, ran-turn, ran-end}
 
 unfoldable pub region : ℕ → ℕ → List ℕ → List ℕ
 region a n xs = take n (drop a xs)

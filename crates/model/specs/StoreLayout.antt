@@ -29,15 +29,13 @@ length-marks : (m : Measures) (st : List ℕ) → length (marksIn m st) ≡ sect
 unfolding marksIn
 length-marks m st = length-tabulate (markIn m st) (sectors m * 4) 0
 
-module _ (st : List ℕ) where
-  module _ (room : sizeOf (measuresAt st) ≤ length st) where
-    pub decode-laid : Laid (decode st)
-    unfolding decode
-    decode-laid = record {
-      base-cells = length-region baseStart (cells (measuresAt st)) st (omega arith);
-      scaled-cells = length-region (scaledStart (measuresAt st)) (cells (measuresAt st)) st (omega arith);
-      marks-sides = length-marks (measuresAt st) st;
-    }
+pub decode-laid : (st : List ℕ) → sizeOf (measuresAt st) ≤ length st → Laid (decode st)
+unfolding decode
+decode-laid st room = record {
+  base-cells = length-region baseStart (cells (measuresAt st)) st (omega arith);
+  scaled-cells = length-region (scaledStart (measuresAt st)) (cells (measuresAt st)) st (omega arith);
+  marks-sides = length-marks (measuresAt st) st;
+}
 
 -- ---- writing
 pub length-markBytes : (marks : List ℕ) → length (markBytes marks) ≡ 2 * length marks
