@@ -99,7 +99,8 @@ module _ (h : Hall) (fresh : Fresh h) where
       go : (s : ℕ) (k : Side) → (s < sectors (h .measures)) ⊎ (sectors (h .measures) ≤ s) → markAt h s k < 1024
       go s k (inl on) = rw (mark-at s k on) (mark-small (h .measures) (h .scaled) s k)
       go s k (inr off) =
-          let long : length (h .marks) ≡ sectors (h .measures) * 4 = ap length (fresh .marked) ∙ length-tabulate (λ n. markOf (h .measures) (h .scaled) (n / 4) (sideAt (n % 4))) (sectors (h .measures) * 4) 0 in
+          let long : length (h .marks) ≡ sectors (h .measures) * 4 =
+          ap length (fresh .marked) ∙ length-tabulate (λ n. markOf (h .measures) (h .scaled) (n / 4) (sideAt (n % 4))) (sectors (h .measures) * 4) 0 in
           let none : markAt h s k ≡ 0 = List·getD-eq-default (h .marks) 0 (omega arith) in
           omega arith
 

@@ -67,13 +67,16 @@ module _ (h : Hall) (fresh : Fresh h) where
       -- a place of the window and its midpoint are at most 5 moves apart, on both sides
       to-mid : (i : ℕ) → firstPlace mark j ≤ i → i ≤ lastPlace mark j → (n : ℕ) × (n ≤ 5) × Inside floor (floorNumber s (border k i)) (floorNumber s (border k (crossing mark j))) n
       to-mid i a z =
-          slide (h .measures) (h .scaled) s k 5 (firstPlace mark j) (lastPlace mark j) i (crossing mark j) (run .inside) a z (crossing-in run .0) (crossing-in run .1) (near run i a z .0) (near run i a z .1)
+          slide (h .measures) (h .scaled) s k 5 (firstPlace mark j) (lastPlace mark j) i (crossing mark j) (run .inside) a z (crossing-in run .0) (crossing-in run .1) (near run i a z .0)
+          (near run i a z .1)
           (λ t c d. open-both h fresh s on k there t (omega (arith, run .inside)) (run .opens t c d) .0)
 
-      from-mid : (i : ℕ) → firstPlace mark j ≤ i → i ≤ lastPlace mark j → (n : ℕ) × (n ≤ 5) × Inside floor (floorNumber far (border (opposite k) (crossing (markAt h far (opposite k)) j))) (floorNumber far (border (opposite k) i)) n
+      from-mid : (i : ℕ) → firstPlace mark j ≤ i → i ≤ lastPlace mark j
+          → (n : ℕ) × (n ≤ 5) × Inside floor (floorNumber far (border (opposite k) (crossing (markAt h far (opposite k)) j))) (floorNumber far (border (opposite k) i)) n
       from-mid i a z =
           rw (far-mark h fresh s on k there)
-          (slide (h .measures) (h .scaled) far (opposite k) 5 (firstPlace mark j) (lastPlace mark j) (crossing mark j) i (run .inside) (crossing-in run .0) (crossing-in run .1) a z (near run i a z .1) (near run i a z .0)
+          (slide (h .measures) (h .scaled) far (opposite k) 5 (firstPlace mark j) (lastPlace mark j) (crossing mark j) i (run .inside) (crossing-in run .0)
+          (crossing-in run .1) a z (near run i a z .1) (near run i a z .0)
           (λ t c d. open-both h fresh s on k there t (omega (arith, run .inside)) (run .opens t c d) .1))
 
   -- ---- gates
@@ -83,7 +86,8 @@ module _ (h : Hall) (fresh : Fresh h) where
 
   -- by sector, side and place
   gate-at : (s : ℕ) (on : s < sectors (h .measures)) (k : Side) (there : hasBeyond (h .measures) s k ≡ true) (i : ℕ) → i < 10 → openAt (h .scaled) (floorNumber s (border k i)) ≡ true
-      → openAt (h .scaled) (floorNumber (beyond (h .measures) s k) (border (opposite k) i)) ≡ true → GateBy (floorNumber s (border k i)) (floorNumber (beyond (h .measures) s k) (border (opposite k) i))
+      → openAt (h .scaled) (floorNumber (beyond (h .measures) s k) (border (opposite k) i)) ≡ true
+      → GateBy (floorNumber s (border k i)) (floorNumber (beyond (h .measures) s k) (border (opposite k) i))
   gate-at s on k there i l x y =
       record {
         near = portalAt s k j;

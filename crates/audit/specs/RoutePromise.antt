@@ -176,7 +176,8 @@ module _ (h : Hall) (fresh : Fresh h) where
       unfolding routeOf throughPortals chosenPair
       by-pairs = rw apart
 
-      from-winner : (b : Option choice.Pair) → winner runOf Option.none (candidates source goal) ≡ b → (steps : List RouteStep) (leg run : ℕ) → throughPair h g source goal b ≡ route steps leg run → Winning (leg-by source) runOf (candidates source goal) leg run
+      from-winner : (b : Option choice.Pair) → winner runOf Option.none (candidates source goal) ≡ b → (steps : List RouteStep) (leg run : ℕ) → throughPair h g source goal b ≡ route steps leg run
+          → Winning (leg-by source) runOf (candidates source goal) leg run
       unfolding throughPair leg-by
       from-winner Option.none q steps leg run e = absurd (none-found e)
       from-winner (some z) q steps leg run e = let x = same-found e in record { one = z; wins = q; leg-is = sym (x .1); run-is = sym (x .2) }

@@ -57,7 +57,8 @@ module _ (m : Measures) (costs : List ℕ) where
   walk-moves : (s : ℕ) {i j n : ℕ} → Walk (moveGraph (costsOf costs s)) i j n → Inside (floorOf m costs) (floorNumber s i) (floorNumber s j) n
   walk-moves s stay = here
   walk-moves s (along {v} {b} {c} e l p k w q) =
-      let one : moveGraph (costsOf costs s) .weight e ≡ 1 = move-one (costsOf costs s) (e / 4) (beside (e / 4) (sideAt (e % 4))) (move-is (costsOf costs s) (e / 4) (beside (e / 4) (sideAt (e % 4))) p) in
+      let one : moveGraph (costsOf costs s) .weight e ≡ 1 =
+      move-one (costsOf costs s) (e / 4) (beside (e / 4) (sideAt (e % 4))) (move-is (costsOf costs s) (e / 4) (beside (e / 4) (sideAt (e % 4))) p) in
       let z : c ≡ b + suc 0 = omega arith in
       rw (z, ← k) (inside-join (walk-moves s w) (move (arc-step s e l p) here))
 

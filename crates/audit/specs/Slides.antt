@@ -23,7 +23,14 @@ module _ (m : Measures) (costs : List ℕ) (s : ℕ) (k : Side) where
   place i = floorNumber s (border k i)
 
   step-up : (i : ℕ) → suc i < 10 → openAt costs (place i) ≡ true → openAt costs (place (suc i)) ≡ true → floorOf m costs .Step (place i) (place (suc i))
-  step-up i l a b = record { leaves = a; enters = b; side = share-along m s k i l; kind = sector-cell s (border k i) (border-low k i (omega arith)) ∙ sym (sector-cell s (border k (suc i)) (border-low k (suc i) l)) }
+  step-up i l a b =
+      record {
+        leaves = a;
+        enters = b;
+        side = share-along m s k i l;
+        kind = sector-cell s (border k i) (border-low k i (omega arith))
+            ∙ sym (sector-cell s (border k (suc i)) (border-low k (suc i) l));
+      }
 
   step-down : (i : ℕ) → suc i < 10 → openAt costs (place i) ≡ true → openAt costs (place (suc i)) ≡ true → floorOf m costs .Step (place (suc i)) (place i)
   step-down i l a b = record { leaves = b; enters = a; side = share-back m (place i) (place (suc i)) (share-along m s k i l); kind = sym (step-up i l a b .kind) }

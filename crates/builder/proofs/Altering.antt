@@ -38,7 +38,8 @@ none-past (x ∷ l) (suc k) h = none-past l k (le-of-suc-le-suc h)
 pub side-few : (side : Side) {n : ℕ} → n ≡ sideNumber side → n ≤ 3
 side-few side e = omega (arith, side-low side)
 
-pub windows-counted : (marks : List ℕ) (s : ℕ) (side : Side) {n mark r : ℕ} → Small marks → n ≡ sideNumber side → mark ≡ getD marks (s * 4 + n) 0 → (mark ≤ 1023 → r ≡ windowCount mark) → r ≡ windowCount (getD marks (s * 4 + sideNumber side) 0)
+pub windows-counted : (marks : List ℕ) (s : ℕ) (side : Side) {n mark r : ℕ} → Small marks → n ≡ sideNumber side → mark ≡ getD marks (s * 4 + n) 0 → (mark ≤ 1023 → r ≡ windowCount mark)
+    → r ≡ windowCount (getD marks (s * 4 + sideNumber side) 0)
 windows-counted marks s side {n} k e is count =
     let at = is ∙ ap (λ j. getD marks (s * 4 + j) 0) e in
     count (rw at (k .small (s * 4 + sideNumber side))) ∙ ap windowCount at
@@ -46,7 +47,8 @@ windows-counted marks s side {n} k e is count =
 pub beyond-few : {m : Measures} (s : ℕ) (side : Side) {other : ℕ} → Accepted m → s ≤ 10000 → other ≡ beyond m s side → other ≤ 20000
 beyond-few {m} s side f l e = omega (arith, f .few-rows, beyond-low m s side)
 
-module _ (m : Measures) (marks : List ℕ) (t s k : ℕ) {side : Side} (at : side ≡ sideAt k) {edge : Bool} (is : edge ≡ (hasBeyond m s side && isNearby m t s && not (isNearby m t (beyond m s side)))) where
+module _ (m : Measures) (marks : List ℕ)
+    (t s k : ℕ) {side : Side} (at : side ≡ sideAt k) {edge : Bool} (is : edge ≡ (hasBeyond m s side && isNearby m t s && not (isNearby m t (beyond m s side)))) where
   pub exceeds-edge : {facing : Side} {other a b : ℕ} → edge ≡ true → other ≡ beyond m s side → facing ≡ opposite side
       → a ≡ windowCount (getD marks (other * 4 + sideNumber facing) 0) → b ≡ windowCount (getD marks (s * 4 + sideNumber side) 0) → ltb a b ≡ exceedsAt (hallOf m [] [] marks) t s (sideAt k)
   unfolding exceedsAt
@@ -96,7 +98,8 @@ remarked-small m costs t marks old = record { small = λ k. go k (decLt k (secto
     one false x y p q = q
 
     go : (k : ℕ) → Dec (k < sectors m * 4) → getD (tabulate rule (sectors m * 4) 0) k 0 ≤ 1023
-    go k (yes l) = rw (tabulate-at rule (sectors m * 4) k 0 l) (one (isNearby m t (k / 4)) (markOf m costs (k / 4) (sideAt (k % 4))) (getD marks k 0) (mark-small m costs (k / 4) (sideAt (k % 4))) (old k l))
+    go k (yes l) =
+        rw (tabulate-at rule (sectors m * 4) k 0 l) (one (isNearby m t (k / 4)) (markOf m costs (k / 4) (sideAt (k % 4))) (getD marks k 0) (mark-small m costs (k / 4) (sideAt (k % 4))) (old k l))
     go k (no l) = rw (← none-past (tabulate rule (sectors m * 4) 0) k (rw (length-tabulate rule (sectors m * 4) 0) (omega arith))) (omega arith)
 
 -- ---- what is answered, and left in the store

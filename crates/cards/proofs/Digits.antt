@@ -62,7 +62,8 @@ fill-suc {n} {count} {a} {k} {rest} {xs} {t} r room =
       is = (rw e at last) ∙ r .is;
     }
 
-pub fill-turn : {n count a k rest b : ℕ} {xs t : List ℕ} → Filling n count a k rest xs t → 0 < k → a + count ≤ length xs → b ≡ 48 + rest % 10 → Filling n count a (k - 1) (rest / 10) xs (set t (a + (k - 1)) b)
+pub fill-turn : {n count a k rest b : ℕ} {xs t : List ℕ} → Filling n count a k rest xs t → 0 < k → a + count ≤ length xs → b ≡ 48 + rest % 10
+    → Filling n count a (k - 1) (rest / 10) xs (set t (a + (k - 1)) b)
 fill-turn {n} {count} {a} {k} {rest} {b} {xs} {t} r h room e =
     let s : suc (k - 1) ≡ k = omega arith in
     rw e (fill-suc (rw (← s) at r) room)

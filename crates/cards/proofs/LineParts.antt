@@ -47,7 +47,8 @@ pub step-none : (flat : List ℕ) (a steps : ℕ) (xs : List ℕ) → a + 20 * s
 unfolding stepsText
 step-none flat a steps xs h = record { within = omega arith; same = refl; short = omega arith; wrote = rw no-steps-in (wrote-none a xs (omega arith)) }
 
-pub step-turn : {flat : List ℕ} {a steps k z w : ℕ} {xs t u : List ℕ} {s : RouteStep} → Stepped flat a steps k z xs t → k < steps → s ≡ stepIn flat k → Wrote (stepText s) z w t u → w ≤ z + 20 → Stepped flat a steps (k + 1) w xs u
+pub step-turn : {flat : List ℕ} {a steps k z w : ℕ} {xs t u : List ℕ} {s : RouteStep} → Stepped flat a steps k z xs t → k < steps → s ≡ stepIn flat k → Wrote (stepText s) z w t u → w ≤ z + 20
+    → Stepped flat a steps (k + 1) w xs u
 step-turn {flat} {a} {steps} {k} {z} {w} {xs} {t} {u} r h e v l =
     let more = wrote-same (steps-more flat k) refl (wrote-on (r .wrote) (wrote-same (ap stepText e) refl v)) in
     record { within = omega arith; same = wrote-length more; short = omega (arith, r .short); wrote = more }
@@ -78,7 +79,8 @@ pub none-text : {answer : Routed} (flat : List ℕ) {a z : ℕ} {xs ys : List �
 unfolding routedText tabulate
 none-text flat e w = wrote-same (ap (λ r. routedText r flat) (sym e)) refl w
 
-pub refused-text : {answer : Routed} (flat : List ℕ) {n a m z : ℕ} {xs ys zs : List ℕ} → answer ≡ Refused n → Wrote (32 ∷ 110 ∷ 111 ∷ 32 ∷ []) a m xs ys → Wrote (decimal n) m z ys zs → Wrote (routedText answer flat) a z xs zs
+pub refused-text : {answer : Routed} (flat : List ℕ) {n a m z : ℕ} {xs ys zs : List ℕ} → answer ≡ Refused n → Wrote (32 ∷ 110 ∷ 111 ∷ 32 ∷ []) a m xs ys → Wrote (decimal n) m z ys zs
+    → Wrote (routedText answer flat) a z xs zs
 unfolding routedText tabulate
 refused-text flat e v w = wrote-same (ap (λ r. routedText r flat) (sym e)) refl (wrote-on v w)
 

@@ -30,6 +30,7 @@ routed-text zero (route steps leg run) rest = ap (λ l. text " " ++ (decimal (le
 routed-text zero none rest = refl
 routed-text (suc n) found rest = refl
 
-pub line-of-found : (source goal n : ℕ) (found : Found) (rest : List ℕ) → lineOf source goal (routed n found) (flatSteps (stepList found) ++ rest) ≡ decimal source ++ (text " " ++ (decimal goal ++ (answerText n found ++ text "\n")))
+pub line-of-found : (source goal n : ℕ) (found : Found) (rest : List ℕ)
+    → lineOf source goal (routed n found) (flatSteps (stepList found) ++ rest) ≡ decimal source ++ (text " " ++ (decimal goal ++ (answerText n found ++ text "\n")))
 unfolding lineOf
 line-of-found source goal n found rest = rw routed-text

@@ -17,7 +17,8 @@ use Rattle.cards.specs.Line.{routedText, lineOf, line-of-found}
 
 -- a refusal leaves the list, and its line reads no step
 line-of-left : (source goal n : ℕ) (found : Found) (list : List ℕ)
-    → lineOf source goal (routed n found) (ifAccepted n (flatSteps (stepList found) ++ drop (length (flatSteps (stepList found))) list) list) ≡ decimal source ++ (text " " ++ (decimal goal ++ (answerText n found ++ text "\n")))
+    → lineOf source goal (routed n found)
+    (ifAccepted n (flatSteps (stepList found) ++ drop (length (flatSteps (stepList found))) list) list) ≡ decimal source ++ (text " " ++ (decimal goal ++ (answerText n found ++ text "\n")))
 unfolding lineOf routedText routed answerText ifAccepted
 line-of-left source goal zero found list = line-of-found source goal zero found (drop (length (flatSteps (stepList found))) list)
 line-of-left source goal (suc n) found list = refl

@@ -28,7 +28,15 @@ unfolding placed within
 placed-placed a t u xs h =
     let front : length (take a xs ++ t) ≡ a + length t = simp (length-append, length-take) (omega arith) in
     let rest : List ℕ = drop (length t) (drop a xs) in
-    rw (← append-assoc (take a xs) t rest, take-at (take a xs ++ t) rest (a + length t) front, drop-at (take a xs ++ t) rest (a + length t) front, length-append, ← drop-drop (length u) (length t) (drop a xs), append-assoc (take a xs) t (u ++ drop (length u) rest), append-assoc t u (drop (length u) rest))
+    rw (
+      ← append-assoc (take a xs) t rest,
+      take-at (take a xs ++ t) rest (a + length t) front,
+      drop-at (take a xs ++ t) rest (a + length t) front,
+      length-append,
+      ← drop-drop (length u) (length t) (drop a xs),
+      append-assoc (take a xs) t (u ++ drop (length u) rest),
+      append-assoc t u (drop (length u) rest),
+    )
 
 pub wrote-on : {t u : List ℕ} {a m z : ℕ} {xs ys zs : List ℕ} → Wrote t a m xs ys → Wrote u m z ys zs → Wrote (t ++ u) a z xs zs
 wrote-on {t} {u} {a} {m} {z} {xs} {ys} {zs} p q =

@@ -51,7 +51,8 @@ table-weight h e = go (below-or e (arcCount (h .measures)))
     go (inl l) = tabulate-at (λ a. portalGraph h .weight a) (arcCount (h .measures)) e 0 l
     go (inr l) =
         let past : length (tabulate (edgesOf h) (portalCount (h .measures)) 0) ≤ e / 20 = omega (arith, length-tabulate (edgesOf h) (portalCount (h .measures)) 0) in
-        List·getD-eq-default (edgeTable h) 0 (omega (arith, length-table h)) ∙ sym (ap (λ (row : List ℕ). getD row (e % 20) 0) (List·getD-eq-default (tabulate (edgesOf h) (portalCount (h .measures)) 0) [] past))
+        List·getD-eq-default (edgeTable h) 0 (omega (arith, length-table h))
+        ∙ sym (ap (λ (row : List ℕ). getD row (e % 20) 0) (List·getD-eq-default (tabulate (edgesOf h) (portalCount (h .measures)) 0) [] past))
 
 pub table-graph : (h : Hall) → tableGraph (h .measures) (edgeTable h) ≡ portalGraph h
 unfolding portalGraph headOf facing

@@ -55,7 +55,8 @@ pub other-sector : (costs : List ℕ) (x y : ℕ) → (sectorOf x ≡ sectorOf y
 unfolding joined
 other-sector costs x y n = rw (ne-eqb (sectorOf x) (sectorOf y) n) refl
 
-pub same-sector : (costs : List ℕ) (x y : ℕ) {from : List ℕ} → sectorOf x ≡ sectorOf y → from ≡ moves (costsOf costs (sectorOf x)) (placeOf x) → getD from (placeOf y) 0 ≡ pick (joined costs x y) (movesTo costs x y) apart
+pub same-sector : (costs : List ℕ) (x y : ℕ) {from : List ℕ} → sectorOf x ≡ sectorOf y → from ≡ moves (costsOf costs (sectorOf x)) (placeOf x)
+    → getD from (placeOf y) 0 ≡ pick (joined costs x y) (movesTo costs x y) apart
 unfolding joined movesTo
 same-sector costs x y {from} e f = rw (f, eq-eqb (sectorOf x) (sectorOf y) e) (go (below-or (getD d (placeOf y) 0) apart))
   where
@@ -70,9 +71,11 @@ same-sector costs x y {from} e f = rw (f, eq-eqb (sectorOf x) (sectorOf y) e) (g
     go (inr l) = rw (le-ltb (getD d (placeOf y) 0) apart l) (omega (arith, cap))
 
 -- entries by the moves of the sector and its midpoints
-pub near-list : (h : Hall) (x : ℕ) {from mids near : List ℕ} {c : ℕ} → from ≡ moves (costsOf (h .scaled) (sectorOf x)) (placeOf x) → mids ≡ sectorMids h (sectorOf x) → Tabled (λ k. nearBy from (getD mids k 0)) sectorPortals c near → sectorPortals ≤ c → near ≡ portalMoves h x
+pub near-list : (h : Hall) (x : ℕ) {from mids near : List ℕ} {c : ℕ} → from ≡ moves (costsOf (h .scaled) (sectorOf x)) (placeOf x) → mids ≡ sectorMids h (sectorOf x)
+    → Tabled (λ k. nearBy from (getD mids k 0)) sectorPortals c near → sectorPortals ≤ c → near ≡ portalMoves h x
 unfolding sectorMids portalMoves
-near-list h x {from} {mids} e f t l = tabled-all (tabled-same t (λ k b. rw e (ap (nearBy (moves (costsOf (h .scaled) (sectorOf x)) (placeOf x))) (table-at (λ c. midOf h (placePortal (sectorOf x) c)) sectorPortals f k 0 b)))) l
+near-list h x {from} {mids} e f t l =
+    tabled-all (tabled-same t (λ k b. rw e (ap (nearBy (moves (costsOf (h .scaled) (sectorOf x)) (placeOf x))) (table-at (λ c. midOf h (placePortal (sectorOf x) c)) sectorPortals f k 0 b)))) l
 
 -- "joined" goes both ways
 joined-same : (costs : List ℕ) (x y : ℕ) → joined costs y x ≡ joined costs x y

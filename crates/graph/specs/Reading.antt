@@ -67,7 +67,8 @@ module _ {m : Measures} {st : List ℕ} (o : Opened m st) where
   portal-sector p e = rw (← measures-are) (portal-is (decode st) p e .inside)
 
   -- the places that were found of a portal's window
-  pub places-of : (p : ℕ) → isPortal (decode st) p ≡ true → {n : ℕ} {w : OpenRun} → n ≡ portalMark (decode st) p → w ≡ placesOf n (portalWindow p) → Places (portalMark (decode st) p) (portalWindow p) w
+  pub places-of : (p : ℕ) → isPortal (decode st) p ≡ true → {n : ℕ} {w : OpenRun} → n ≡ portalMark (decode st) p → w ≡ placesOf n (portalWindow p)
+      → Places (portalMark (decode st) p) (portalWindow p) w
   places-of p e q f =
       let run = portal-run (decode st) fits-of p e in
       rw (f, q) (record { begins = refl; ends = refl; low-first = omega (arith, run .ordered, run .inside); low-last = run .inside })

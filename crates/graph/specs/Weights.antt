@@ -23,7 +23,8 @@ use Rattle.graph.specs.EdgeTable.{Opened, bare}
 use Rattle.graph.specs.Near.{midOf, sectorMids, nearBy, mid-some, mid-none}
 
 -- the edge to the facing portal q: x says whether there is a sector beyond, y whether q is a portal
-pub outer-is : {m : Measures} {st : List ℕ} → Opened m st → (p : ℕ) (x y : Bool) {side : Side} {b d : Bool} {q : ℕ} → side ≡ portalSide p → b ≡ hasBeyond m (portalSector p) side → b ≡ x → q ≡ facing (bare m) p → d ≡ isPortal (decode st) q → d ≡ y → pick (x && y) (key 1) 0 ≡ outerEdge (decode st) p
+pub outer-is : {m : Measures} {st : List ℕ} → Opened m st → (p : ℕ) (x y : Bool) {side : Side} {b d : Bool} {q : ℕ} → side ≡ portalSide p → b ≡ hasBeyond m (portalSector p) side → b ≡ x
+    → q ≡ facing (bare m) p → d ≡ isPortal (decode st) q → d ≡ y → pick (x && y) (key 1) 0 ≡ outerEdge (decode st) p
 unfolding outerEdge facing decode
 outer-is o p x y e f b g k d = rw (← b, ← d, k, g, f, e, o .read) refl
 
@@ -82,7 +83,8 @@ module _ (h : Hall) (p : ℕ) {mids : List ℕ} (given : mids ≡ sectorMids h (
       go false e = absurd (omega (arith, own-mid, mid-none h p e))
 
 -- the moves from a cell that is its midpoint
-pub moves-own : (h : Hall) (p mid : ℕ) {x : ℕ} {from : List ℕ} → x ≡ floorNumber (portalSector p) mid → mid ≡ midpoint h p → mid < 100 → from ≡ moves (costsOf (h .scaled) (sectorOf x)) (placeOf x) → from ≡ movesFrom h p
+pub moves-own : (h : Hall) (p mid : ℕ) {x : ℕ} {from : List ℕ} → x ≡ floorNumber (portalSector p) mid → mid ≡ midpoint h p → mid < 100 → from ≡ moves (costsOf (h .scaled) (sectorOf x)) (placeOf x)
+    → from ≡ movesFrom h p
 moves-own h p mid {x} a b l e =
     let sector : x / 100 ≡ p / 20 = omega arith in
     let place : x % 100 ≡ midpoint h p = omega arith in
@@ -100,6 +102,7 @@ module _ (h : Hall) (p c : ℕ) (low : c < sectorPortals) (inside : arcAt p c < 
   pub weight-none : isPortal h p ≡ false → 0 ≡ portalGraph h .weight (arcAt p c)
   weight-none e = sym (weight-is ∙ rw e refl)
 
-  pub weight-by : Fits h → {from mids : List ℕ} {outer : ℕ} → isPortal h p ≡ true → from ≡ movesFrom h p → mids ≡ sectorMids h (portalSector p) → outer ≡ outerEdge h p → edgeBy from (getD mids c 0) outer (portalPlace p) c ≡ portalGraph h .weight (arcAt p c)
+  pub weight-by : Fits h → {from mids : List ℕ} {outer : ℕ} → isPortal h p ≡ true → from ≡ movesFrom h p → mids ≡ sectorMids h (portalSector p) → outer ≡ outerEdge h p
+      → edgeBy from (getD mids c 0) outer (portalPlace p) c ≡ portalGraph h .weight (arcAt p c)
   unfolding edgeBy edgeAt
   weight-by fits e f g o = rw (place-mid h p g c low, f, o, inner-by h fits (movesFrom h p) (placePortal (portalSector p) c)) (sym (weight-is ∙ rw e refl))

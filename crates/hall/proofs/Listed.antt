@@ -62,7 +62,8 @@ module _ (st : List ℕ) (s : ℕ) (list : List ℕ) where
             let e : n ≡ sectors (measuresAt st) = all ∙ ap sectors read in
             rw (← is, none z, ← e, lt-leb n s on, windows-are s read (passed is z) (omega arith) are)
 
-        pub refused-27 : {count : ℕ} → (FourMarks marks → count ≡ length (windowsBy marks 4)) → length list / 3 < count → WindowsAnswers st s (length list / 3) (Refused 27) × (list ≡ windowsFlat st s list)
+        pub refused-27 : {count : ℕ} → (FourMarks marks → count ≡ length (windowsBy marks 4)) → length list / 3 < count
+            → WindowsAnswers st s (length list / 3) (Refused 27) × (list ≡ windowsFlat st s list)
         unfolding refuse
         refused-27 c h = refused 27 (omega arith) (sym (number ∙ rw (lt-ltb (length list / 3) (length (windowsBy marks 4)) (omega (arith, c four)))))
 
@@ -73,7 +74,8 @@ module _ (st : List ℕ) (s : ℕ) (list : List ℕ) where
           pub few-listed : {found : ℕ} → found ≡ length (windowsBy marks 4) → found < 256
           few-listed e = omega (arith, few-by four 4 (omega arith))
 
-          pub listed-all : {found byte : ℕ} {out : List ℕ} → byte ≡ found → found ≡ length (windowsBy marks 4) → out ≡ over (windowsBy marks 4) list → WindowsAnswers st s (length list / 3) (Windows byte) × (out ≡ windowsFlat st s list)
+          pub listed-all : {found byte : ℕ} {out : List ℕ} → byte ≡ found → found ≡ length (windowsBy marks 4) → out ≡ over (windowsBy marks 4) list
+              → WindowsAnswers st s (length list / 3) (Windows byte) × (out ≡ windowsFlat st s list)
           unfolding windowsAnswer windowsFlat refuse listed ifAccepted
           listed-all b e o =
               let zero : windowsNumber st s (length list / 3) ≡ 0 = number ∙ rw (le-ltb (length list / 3) (length (windowsBy marks 4)) (omega (arith, c four))) in

@@ -30,7 +30,8 @@ spare st (a ∷ b ∷ c ∷ []) h l = refl
 spare st (a ∷ b ∷ c ∷ d ∷ rest) h l = absurd (omega arith)
 
 module _ (st pairs : List ℕ) (k : ℕ) where
-  pub cut-line : k < length pairs → length pairs - k < 4 → {r : ℕ} {xs ys : List ℕ} → Wrote (99 ∷ 117 ∷ 116 ∷ 10 ∷ []) 0 r xs ys → Counts r ys × (pairLines st (drop k pairs) ≡ take r ys ++ pairLines st (drop (k + 4) pairs))
+  pub cut-line : k < length pairs → length pairs - k < 4 → {r : ℕ} {xs ys : List ℕ} → Wrote (99 ∷ 117 ∷ 116 ∷ 10 ∷ []) 0 r xs ys
+      → Counts r ys × (pairLines st (drop k pairs) ≡ take r ys ++ pairLines st (drop (k + 4) pairs))
   unfolding pairLines tabulate
   cut-line h l w = (
     front w .0,
@@ -61,7 +62,8 @@ module _ (st pairs : List ℕ) (k : ℕ) where
       (counts _ _ long, pair-next (omega arith) ∙ rw (read, ← s, ← g))
 
 -- ---- a hall that is refused
-pub refused-text : (number : ℕ) {a b r : ℕ} {xs ys zs ws : List ℕ} → Wrote (104 ∷ 97 ∷ 108 ∷ 108 ∷ 32 ∷ 114 ∷ 101 ∷ 102 ∷ 117 ∷ 115 ∷ 101 ∷ 100 ∷ 32 ∷ []) 0 a xs ys → Wrote (decimal number) a b ys zs → Wrote (10 ∷ []) b r zs ws
+pub refused-text : (number : ℕ) {a b r : ℕ} {xs ys zs ws : List ℕ} → Wrote (104 ∷ 97 ∷ 108 ∷ 108 ∷ 32 ∷ 114 ∷ 101 ∷ 102 ∷ 117 ∷ 115 ∷ 101 ∷ 100 ∷ 32 ∷ []) 0 a xs ys → Wrote (decimal number) a b ys zs
+    → Wrote (10 ∷ []) b r zs ws
     → Counts r ws × (take r ws ≡ text "hall refused " ++ (decimal number ++ text "\n"))
 unfolding tabulate
 refused-text number p q s = front (wrote-on p (wrote-on q s))

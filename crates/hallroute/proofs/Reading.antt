@@ -68,7 +68,8 @@ file-refused file st size same e =
     let r = refused-is (readNumber file size) (measuresAt file) e in
     (r .0 ∙ same, not-accepted (fileNumber file) _ st (omega arith))
 
-module _ (file base st : List ℕ) (same : readNumber file (length base) ≡ fileNumber file) (room : 20804 ≤ length st) {m : Measures} (read : Accepted m ≡ readAnswer file (length base)) {filled : List ℕ} (kept : length filled ≡ length base) (are : filled ≡ readInto file base) where
+module _ (file base st : List ℕ) (same : readNumber file (length base) ≡ fileNumber file)
+    (room : 20804 ≤ length st) {m : Measures} (read : Accepted m ≡ readAnswer file (length base)) {filled : List ℕ} (kept : length filled ≡ length base) (are : filled ≡ readInto file base) where
   no : readNumber file (length base) ≡ 0
   unfolding readAnswer
   no = accepted-is (readNumber file (length base)) read .0

@@ -164,7 +164,8 @@ module _ {g : Graph} (rank : ℕ → ℕ) {t top : ℕ} {d : List ℕ} (ok : Set
           let x = next-is u (y .0) (y .1) (y .2) in
           let v : ℕ = next g rank d u (g .arcs) in
           let same : getD d (g .head (x .0)) 0 ≡ getD d v 0 = ap (λ (y : ℕ). getD d y 0) (x .3) in
-          let rest : Trail g t v (path g rank d n v) (getD d v 0) = rec v (omega (arith, x .3, sound .head-in (x .0) (x .1) (x .2 .real))) (omega (arith, x .2 .exact)) (omega (arith, x .2 .exact, x .2 .real)) in
+          let rest : Trail g t v (path g rank d n v) (getD d v 0) =
+          rec v (omega (arith, x .3, sound .head-in (x .0) (x .1) (x .2 .real))) (omega (arith, x .2 .exact)) (omega (arith, x .2 .exact, x .2 .real)) in
           let there : Trail g t (g .head (x .0)) (path g rank d n v) (getD d v 0) = rw (x .3) rest in
           let cost : getD d u 0 ≡ getD d v 0 + g .weight (x .0) = omega (arith, x .2 .exact) in
           rw q (goes (x .0) (x .1) (x .2 .real) (x .2 .leaves) there cost)
@@ -177,7 +178,8 @@ module _ {g : Graph} (rank : ℕ → ℕ) {t top : ℕ} {d : List ℕ} (ok : Set
   path-first tells (suc n) u ends q h = rw (eq-eqb (getD d u 0) 0 (sym q), path) same
   path-first tells (suc n) u (goes {b = b} {p = p} e l k z w r) q h =
       let exact : getD d u 0 ≡ getD d (g .head e) 0 + g .weight e = omega (arith, none-less ok (trail-walk w), ok .low e l k, ap (λ (x : ℕ). getD d x 0) z) in
-      rw (ne-eqb (getD d u 0) 0 (λ x. omega arith), path) (then (go (next-is u e l (record { leaves = z; real = k; exact = exact })) (λ a. path-first tells n (g .head e) w (omega arith) (omega arith))))
+      rw (ne-eqb (getD d u 0) 0 (λ x. omega arith), path) (then (go (next-is u e l (record { leaves = z; real = k; exact = exact })) (λ a.
+      path-first tells n (g .head e) w (omega arith) (omega arith))))
     where
       v : ℕ
       v = next g rank d u (g .arcs)

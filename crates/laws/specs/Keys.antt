@@ -57,7 +57,8 @@ module _ {g : Graph} {cost : ℕ → ℕ} {top : ℕ} (k : Keyed g cost top) {s 
     arcs-few {v} (takes {a = a} {m = m} e l p h w x y) q =
         let u : ℕ = g .tail e in
         let same : 4096 * a + m ≡ getD d u 0 = omega (arith, none-less ok (way-walk w (4096 * a + m) refl), ok .low e l p, k .keyed e l p, ap (λ (z : ℕ). getD d z 0) h) in
-        let more : count (under d (getD d u 0)) (g .nodes) < count (under d (getD d v 0)) (g .nodes) = under-more d (getD d u 0) (getD d v 0) (g .nodes) u (k .sound .tail-in e l p) (omega arith) (omega (arith, k .keyed e l p)) in
+        let more : count (under d (getD d u 0)) (g .nodes) < count (under d (getD d v 0)) (g .nodes) =
+        under-more d (getD d u 0) (getD d v 0) (g .nodes) u (k .sound .tail-in e l p) (omega arith) (omega (arith, k .keyed e l p)) in
         omega (arith, arcs-few w same)
 
     -- such a way has fewer arcs than the graph has nodes, and the key is its cost and its arcs

@@ -98,7 +98,8 @@ module _ {g : Graph} {rank : ℕ → ℕ} {t from : ℕ} {d old : List ℕ} wher
     pub tracing-room : (i < length new) × (i < length (path g rank d (getD d from 0) from))
     tracing-room =
         let front = path-front g rank d (getD d from 0 - i) u in
-        let whole : i + length (path g rank d (getD d from 0 - i) u) ≡ length (path g rank d (getD d from 0) from) = omega (arith, length-append (now .passed) (path g rank d (getD d from 0 - i) u), ap length (now .is), now .many) in
+        let whole : i + length (path g rank d (getD d from 0 - i) u) ≡ length (path g rank d (getD d from 0) from) =
+        omega (arith, length-append (now .passed) (path g rank d (getD d from 0 - i) u), ap length (now .is), now .many) in
         let more : i < length (path g rank d (getD d from 0) from) = omega (arith, whole, ap length (front .1)) in
         (omega (arith, more, ap length (now .written), length-append (now .passed) (drop i old), length-drop i old, now .many, now .room), more)
 

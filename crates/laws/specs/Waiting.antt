@@ -85,7 +85,12 @@ module _ {g : Graph} {s top : ℕ} (sound : Sound g) where
       go : (e : ℕ) → e < g .arcs → 0 < g .weight e → Dec (g .tail e ≡ s) → Held g (outset g s top) (set none s 1) e
       go e k p (yes q) = inl (rw (q, getD-set-same none s 1 0 (omega (arith, size))) (omega arith))
       go e k p (no q) =
-          inr (omega (arith, rough .capped (g .head e) (sound .head-in e k p), getD-set-other (replicate (g .nodes) top) s (g .tail e) 0 0 q, getD-replicate (g .nodes) (g .tail e) top 0 (sound .tail-in e k p)))
+          inr (omega (
+            arith,
+            rough .capped (g .head e) (sound .head-in e k p),
+            getD-set-other (replicate (g .nodes) top) s (g .tail e) 0 0 q,
+            getD-replicate (g .nodes) (g .tail e) top 0 (sound .tail-in e k p),
+          ))
 
   -- u waits no longer, and its arcs are to be taken
   pub serving-none : {d p : List ℕ} → Waiting g s top d p → (u m : ℕ) → ((e : ℕ) → e < g .arcs → 0 < g .weight e → g .tail e ≡ u → m ≤ e) → Serving g s top d (set p u 0) u m
@@ -148,7 +153,15 @@ module _ {g : Graph} {s top : ℕ} (sound : Sound g) where
 
       go : (e : ℕ) → Dec (g .tail e ≡ v) → Dec (e ≡ m) → Held g d p e ⊎ ((g .tail e ≡ u) × (m ≤ e)) → Held g (set d v x) (set p v 1) e ⊎ ((g .tail e ≡ u) × (suc m ≤ e))
       go e (yes r) b h = inl (inl (rw (r, getD-set-same p v 1 0 in-p) (omega arith)))
-      go e (no r) (yes b) h = inl (inr (omega (arith, getD-set-same d v x 0 in-d, getD-set-other d v (g .tail e) x 0 r, ap (λ (k : ℕ). getD (set d v x) (g .head k) 0) b, ap (λ (k : ℕ). getD d (g .tail k) 0) b, ap (λ (k : ℕ). g .weight k) b)))
+      go e (no r) (yes b) h =
+          inl (inr (omega (
+            arith,
+            getD-set-same d v x 0 in-d,
+            getD-set-other d v (g .tail e) x 0 r,
+            ap (λ (k : ℕ). getD (set d v x) (g .head k) 0) b,
+            ap (λ (k : ℕ). getD d (g .tail k) 0) b,
+            ap (λ (k : ℕ). g .weight k) b,
+          )))
       go e (no r) (no b) (inl (inl h)) = inl (inl (rw (getD-set-other p v (g .tail e) 1 0 r) h))
       go e (no r) (no b) (inl (inr h)) = inl (inr (omega (arith, down (g .head e), getD-set-other d v (g .tail e) x 0 r)))
       go e (no r) (no b) (inr h) = inr (h .0, omega (arith, h .1))

@@ -12,7 +12,14 @@ use Rattle.model.specs.Steps.{stepBytes, flatSteps}
 -- step k of a flat list, and its first n steps
 abbrev pub stepIn : List ℕ → ℕ → RouteStep
 stepIn flat k =
-    record { column = getD flat (6 * k) 0; row = getD flat (6 * k + 1) 0; goal = getD flat (6 * k + 2) 0; side = getD flat (6 * k + 3) 0; «first» = getD flat (6 * k + 4) 0; last = getD flat (6 * k + 5) 0 }
+    record {
+      column = getD flat (6 * k) 0;
+      row = getD flat (6 * k + 1) 0;
+      goal = getD flat (6 * k + 2) 0;
+      side = getD flat (6 * k + 3) 0;
+      «first» = getD flat (6 * k + 4) 0;
+      last = getD flat (6 * k + 5) 0;
+    }
 
 unfoldable pub stepsIn : ℕ → List ℕ → List RouteStep
 stepsIn n flat = tabulate (stepIn flat) n 0

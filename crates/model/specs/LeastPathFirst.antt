@@ -44,6 +44,7 @@ module _ (h : Hall) (fits : Fits h) where
     pub least-path : (p : ℕ) → p < portalGraph h .nodes → getD (keysTo (portalGraph h) e) p 0 < unlinked
         → let keys = keysTo (portalGraph h) e in
         Journey (portalGraph h) (edgeCost h) e p (leastPath h (portalGraph h) keys p) (costOfKey (getD keys p 0)) (getD keys p 0 % keyStep)
-        × ((q : List ℕ) (b n : ℕ) → Journey (portalGraph h) (edgeCost h) e p q b n → Before (nodeRank h) (leastPath h (portalGraph h) keys p) q (costOfKey (getD keys p 0)) b (getD keys p 0 % keyStep) n)
+        × ((q : List ℕ) (b n : ℕ) → Journey (portalGraph h) (edgeCost h) e p q b n
+        → Before (nodeRank h) (leastPath h (portalGraph h) keys p) q (costOfKey (getD keys p 0)) b (getD keys p 0 % keyStep) n)
     unfolding leastPath
     least-path p l b = least-journey portal-keyed keys-settled (nodeRank h) p l b (rank-tells h fits)

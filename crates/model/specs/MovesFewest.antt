@@ -98,7 +98,8 @@ pub record Joined (costs : List ℕ) (x y : ℕ) : Type 0 where
 
 pub joined-is : (costs : List ℕ) (x y : ℕ) → joined costs x y ≡ true → Joined costs x y
 unfolding joined
-joined-is costs x y e = let a = both (eqb (sectorOf x) (sectorOf y)) (ltb (movesTo costs x y) apart) e in record { sector = eqb-true (sectorOf x) (sectorOf y) (a .0); near = ltb-true (movesTo costs x y) apart (a .1) }
+joined-is costs x y e = let a = both (eqb (sectorOf x) (sectorOf y)) (ltb (movesTo costs x y) apart) e in
+    record { sector = eqb-true (sectorOf x) (sectorOf y) (a .0); near = ltb-true (movesTo costs x y) apart (a .1) }
 
 pub is-joined : (costs : List ℕ) (x y : ℕ) → Joined costs x y → joined costs x y ≡ true
 unfolding joined

@@ -45,7 +45,8 @@ module _ (m : Measures) (s i n : ℕ) (d : CompassDir) (cell : i < 100) (few : n
       let east = axis-on (columnOf m s) (m .columns) (i % 10) (eastward d) n (omega arith) few in
       let south = axis-on (rowOf m s) (m .rows) (i / 10) (southward d) n (omega arith) few in
       rw (floor-on m s i cell Column, floor-on m s i cell Row) (
-        λ h. let t = both (onAxis (columnOf m s + stepped (i % 10) (eastward d) n / 10) (m .columns)) (onAxis (rowOf m s + stepped (i / 10) (southward d) n / 10) (m .rows)) h in (east .0 (t .0), south .0 (t .1)),
+        λ h. let t = both (onAxis (columnOf m s + stepped (i % 10) (eastward d) n / 10) (m .columns)) (onAxis (rowOf m s + stepped (i / 10) (southward d) n / 10) (m .rows)) h in
+            (east .0 (t .0), south .0 (t .1)),
         λ h. rw (east .1 (h .0), south .1 (h .1)),
       )
 
@@ -67,5 +68,14 @@ module _ (m : Measures) (s i n : ℕ) (d : CompassDir) (cell : i < 100) (few : n
       let row-part : (y % 10 * 10 + x % 10) / 10 ≡ y % 10 = omega arith in
       let sector : ℕ = shifted m s (x / 10) (y / 10) in
       let there = sector-is m (columnOf m s + x / 10 - 1) (rowOf m s + y / 10 - 1) row in
-      rw (floor-on m sector (y % 10 * 10 + x % 10) low Column, floor-on m sector (y % 10 * 10 + x % 10) low Row, floor-on m s i cell Column, floor-on m s i cell Row, column-part, row-part, there .0, there .1)
+      rw (
+        floor-on m sector (y % 10 * 10 + x % 10) low Column,
+        floor-on m sector (y % 10 * 10 + x % 10) low Row,
+        floor-on m s i cell Column,
+        floor-on m s i cell Row,
+        column-part,
+        row-part,
+        there .0,
+        there .1,
+      )
       (axis-moved (columnOf m s) (i % 10) (eastward d) n (omega arith) few east, axis-moved (rowOf m s) (i / 10) (southward d) n (omega arith) few down-low)

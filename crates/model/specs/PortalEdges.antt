@@ -89,7 +89,8 @@ pub record EdgeOf (h : Hall) (e : ℕ) : Type 0 where
 
 module _ (h : Hall) (fits : Fits h) where
   -- two portals of a sector are joined by the moves from the first
-  joined-by : (p q : ℕ) → isPortal h p ≡ true → isPortal h q ≡ true → portalSector p ≡ portalSector q → getD (movesFrom h p) (midpoint h q) 0 < apart → joined (h .scaled) (midCell h p) (midCell h q) ≡ true
+  joined-by : (p q : ℕ) → isPortal h p ≡ true → isPortal h q ≡ true → portalSector p ≡ portalSector q → getD (movesFrom h p) (midpoint h q) 0 < apart
+      → joined (h .scaled) (midCell h p) (midCell h q) ≡ true
   joined-by p q a b s l =
       is-joined (h .scaled) (midCell h p) (midCell h q)
       (record { sector = mid-sector h fits p a ∙ s ∙ sym (mid-sector h fits q b); near = rw (moves-between h fits p q a b) l })
@@ -158,7 +159,8 @@ module _ (h : Hall) (p c : ℕ) where
   unfolding edgeAt outerEdge
   edge-own e t b = rw (eq-eqb c (portalPlace p) e, t, b)
 
-  edge-other : c ≢ portalPlace p → (q : ℕ) → placePortal (portalSector p) c ≡ q → isPortal h q ≡ true → getD (movesFrom h p) (midpoint h q) 0 < apart → edgeAt h p (movesFrom h p) c ≡ key (getD (movesFrom h p) (midpoint h q) 0)
+  edge-other : c ≢ portalPlace p → (q : ℕ) → placePortal (portalSector p) c ≡ q → isPortal h q ≡ true → getD (movesFrom h p) (midpoint h q) 0 < apart
+      → edgeAt h p (movesFrom h p) c ≡ key (getD (movesFrom h p) (midpoint h q) 0)
   unfolding edgeAt innerEdge
   edge-other e q is b l = rw (ne-eqb c (portalPlace p) e, is, b, lt-ltb (getD (movesFrom h p) (midpoint h q) 0) apart l)
 

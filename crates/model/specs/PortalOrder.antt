@@ -46,8 +46,10 @@ module _ (h : Hall) (fits : Fits h) where
 
   ranks-low : (p : ℕ) → isPortal h p ≡ true → (firstRank p < 100) × (lastRank p < 100)
   ranks-low p is =
-      let run = portal-run h fits p is in
-      (rank-low (portalSide p) (firstPlace (portalMark h p) (portalWindow p)) (omega (arith, run .ordered, run .inside)), rank-low (portalSide p) (lastPlace (portalMark h p) (portalWindow p)) (run .inside))
+      let run = portal-run h fits p is in (
+        rank-low (portalSide p) (firstPlace (portalMark h p) (portalWindow p)) (omega (arith, run .ordered, run .inside)),
+        rank-low (portalSide p) (lastPlace (portalMark h p) (portalWindow p)) (run .inside),
+      )
 
   same-window : (p q : ℕ) → portalSector p ≡ portalSector q → portalSide p ≡ portalSide q → isPortal h p ≡ true → isPortal h q ≡ true → firstRank p ≡ firstRank q → portalWindow p ≡ portalWindow q
   same-window p q s k ip iq e =
@@ -63,7 +65,9 @@ module _ (h : Hall) (fits : Fits h) where
   rank-apart p q ip iq e =
       let a = ranks-low p ip in
       let b = ranks-low q iq in
-      let parts = unranked (portalSector p) (firstRank p) (lastRank p) (sideNumber (portalSide p)) (portalSector q) (firstRank q) (lastRank q) (sideNumber (portalSide q)) (a .0) (a .1) (side-low (portalSide p)) (b .0) (b .1) (side-low (portalSide q)) e in
+      let parts =
+      unranked (portalSector p) (firstRank p) (lastRank p) (sideNumber (portalSide p)) (portalSector q) (firstRank q) (lastRank q) (sideNumber (portalSide q)) (a .0) (a .1)
+      (side-low (portalSide p)) (b .0) (b .1) (side-low (portalSide q)) e in
       let side : portalSide p ≡ portalSide q = sym (side-number (portalSide p)) ∙ ap sideAt (parts .2) ∙ side-number (portalSide q) in
       same-portal p q (parts .0) side (same-window p q (parts .0) side ip iq (parts .1))
 

@@ -67,4 +67,5 @@ module _ (h : Hall) (g : Graph) (source goal : ℕ) where
   pub is-pair : Fits h → {p e : ℕ} → Candidate h g source goal p e → In (pairOf p e) (routePairs h g source goal)
   unfolding routePairs endOf
   is-pair fits {p} {e} c =
-      pairs-has linkedPair (start-has fits source p (c .start-is) (c .start-joined)) (Memᴰ·map (endOf h g goal) (end-has fits goal e (c .end-is) (c .end-joined))) (link-has p (endOf h g goal e) (c .linked))
+      pairs-has linkedPair (start-has fits source p (c .start-is) (c .start-joined)) (Memᴰ·map (endOf h g goal) (end-has fits goal e (c .end-is) (c .end-joined)))
+      (link-has p (endOf h g goal e) (c .linked))

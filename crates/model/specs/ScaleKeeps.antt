@@ -35,7 +35,8 @@ module _ (P : List ℕ → Type 0) (m : Measures) (keep : (s i k : ℕ) (xs : Li
   unfolding scaleFloor
   floor-keeps p = run-keeps (scaleSector m base) P sector-keeps (sectors m) base p
 
-pub nearby-keeps : (P : List ℕ → Type 0) (m : Measures) (t : ℕ) → t < sectors m → (step : ℕ → List ℕ → List ℕ) → ((s : ℕ) (xs : List ℕ) → s < sectors m → P xs → P (step s xs)) → (xs : List ℕ) → P xs → P (forNearby m t step xs)
+pub nearby-keeps : (P : List ℕ → Type 0) (m : Measures) (t : ℕ) → t < sectors m → (step : ℕ → List ℕ → List ℕ) → ((s : ℕ) (xs : List ℕ) → s < sectors m → P xs → P (step s xs)) → (xs : List ℕ) → P xs
+    → P (forNearby m t step xs)
 unfolding forNearby
 nearby-keeps P m t on step keep xs p = run-keeps (atNearby m t step) P (λ k ys q. at k ys q (isThere m t k) refl) 9 xs p
   where

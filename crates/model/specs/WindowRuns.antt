@@ -111,7 +111,8 @@ module _ (mark : ℕ) (small : mark < 1024) where
       below = not (isOpen (2 * mark) a) && above
 
       t₁ : (leb a z ≡ true) × (ltb z 10 && below ≡ true)
-      t₁ = both (leb a z) (ltb z 10 && below) (implied (ltb j (windowCount mark)) (leb a z && (ltb z 10 && below)) (all-at (longest mark) 5 j (tested .2) (omega (arith, few-windows))) (lt-ltb j (windowCount mark) l))
+      t₁ = both (leb a z) (ltb z 10 && below) (implied (ltb j (windowCount mark)) (leb a z && (ltb z 10 && below)) (all-at (longest mark) 5 j (tested .2) (omega (arith, few-windows)))
+          (lt-ltb j (windowCount mark) l))
 
       t₂ : (ltb z 10 ≡ true) × (below ≡ true)
       t₂ = both (ltb z 10) below (t₁ .1)
@@ -127,7 +128,8 @@ module _ (mark : ℕ) (small : mark < 1024) where
 
       place : (i : ℕ) → a ≤ i → i ≤ z → (isOpen mark i ≡ true) × (windowOn mark i ≡ j)
       place i f g =
-          let u = both (isOpen mark i) (eqb (windowOn mark i) j) (implied (spans mark j i) (isOpen mark i && eqb (windowOn mark i) j) (all-at (owns mark j) 10 i (t₄ .1) (omega (arith, in-side))) (is-spanned mark j i f g)) in
+          let u = both (isOpen mark i) (eqb (windowOn mark i) j)
+          (implied (spans mark j i) (isOpen mark i && eqb (windowOn mark i) j) (all-at (owns mark j) 10 i (t₄ .1) (omega (arith, in-side))) (is-spanned mark j i f g)) in
           (u .0, eqb-true (windowOn mark i) j (u .1))
 
   -- two windows with the same first place are one

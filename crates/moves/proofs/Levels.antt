@@ -93,7 +93,8 @@ module _ (costs : List ℕ) (from : ℕ) (low : from < 100) (l₀ : List ℕ) {l
   }
 
 -- ---- the next level
-module _ (costs : List ℕ) (from : ℕ) (low : from < 100) (start : openAt costs from ≡ true) {words : List ℕ} (given : words ≡ openWords costs) {l₀ l : List ℕ} {d change : ℕ} (few : d < 100) (g : Grown words d l₀ l change) (all : Levels (far costs from) l₀ (d + 1)) where
+module _ (costs : List ℕ) (from : ℕ) (low : from < 100) (start : openAt costs from ≡ true) {words : List ℕ} (given : words ≡ openWords costs) {l₀ l : List ℕ} {d change : ℕ} (few : d < 100)
+    (g : Grown words d l₀ l change) (all : Levels (far costs from) l₀ (d + 1)) where
   level : Level (far costs from) l₀ d
   level = all .each d (omega arith)
 
@@ -211,7 +212,8 @@ module _ (costs : List ℕ) (from : ℕ) (low : from < 100) {l : List ℕ} {n : 
   told few = record {
     long = all .long;
     few = few;
-    found = ext-getD 0 (tabulate (movesBy l n) 100 0) (moves costs from) (length-tabulate (movesBy l n) 100 0 ∙ sym (moves-long costs from low)) (λ i h. let b : i < 100 = omega (arith, length-tabulate (movesBy l n) 100 0) in tabulate-at (movesBy l n) 100 i 0 b ∙ by-is i b);
+    found = ext-getD 0 (tabulate (movesBy l n) 100 0) (moves costs from) (length-tabulate (movesBy l n) 100 0 ∙ sym (moves-long costs from low))
+        (λ i h. let b : i < 100 = omega (arith, length-tabulate (movesBy l n) 100 0) in tabulate-at (movesBy l n) 100 i 0 b ∙ by-is i b);
   }
 
 -- ---- as `moves_at` reads them
@@ -249,7 +251,8 @@ module _ (costs : List ℕ) (from : ℕ) (long : length costs ≡ 100) (low : fr
   pub spread-last : Levels (far costs from) l 101 → Spread (moves costs from) l 101
   spread-last all = told costs from low all (λ i h m. omega (arith, far-few costs from low i h m)) (omega arith)
 
-  module _ (n : getD costs from 0 ≡ 255 → ⊥) {words : List ℕ} (given : words ≡ openWords costs) {l₀ : List ℕ} {d change : ℕ} (few : d < 100) (g : Grown words d l₀ l change) (all : Levels (far costs from) l₀ (d + 1)) where
+  module _ (n : getD costs from 0 ≡ 255 → ⊥) {words : List ℕ} (given : words ≡ openWords costs) {l₀ : List ℕ} {d change : ℕ} (few : d < 100) (g : Grown words d l₀ l change)
+      (all : Levels (far costs from) l₀ (d + 1)) where
     pub spread-more : Levels (far costs from) l (d + 1 + 1)
     spread-more = levels-more costs from low (start-open costs from (omega arith) n) given few g all
 

@@ -121,7 +121,8 @@ module _ (costs : List ℕ) (from : ℕ) (low : from < 100) where
   pub far-few : (i : ℕ) → i < 100 → far costs from i < 255 → far costs from i ≤ 100
   far-few i l h =
       let short : Settled (moveGraph costs) from 101 (least-costs (moveGraph costs) from 101) = least-costs-settled (move-sound costs) low (omega arith) in
-      let less : getD (least-costs (moveGraph costs) from 101) i 0 < 101 = reached {most = 1} short (move-sound costs) (λ e l. light e (below-or 0 (moveGraph costs .weight e))) (omega arith) (made i l h) in
+      let less : getD (least-costs (moveGraph costs) from 101) i 0 < 101 =
+      reached {most = 1} short (move-sound costs) (λ e l. light e (below-or 0 (moveGraph costs .weight e))) (omega arith) (made i l h) in
       omega (arith, none-less settled (short .rough .made i l less))
     where
       light : (e : ℕ) → (0 < moveGraph costs .weight e) ⊎ (moveGraph costs .weight e ≤ 0) → moveGraph costs .weight e ≤ 1

@@ -60,7 +60,8 @@ module _ (row : ℕ → ℕ) (small : (y : ℕ) → row y < 1024) where
         (λ q. inside (below-or y n) q (more .0) (more .1) (o .left) (o .right) (o .either)),
         λ q.
             let at : y * 11 + x ≡ n * 11 + ((y - n) * 11 + x) = omega arith in
-            let off : bitAt (row n * 2 ^ (n * 11)) (y * 11 + x) ≡ 0 = ap (λ (k : ℕ). bitAt (row n * 2 ^ (n * 11)) k) at ∙ up-bit (row n) (n * 11) ((y - n) * 11 + x) ∙ high-bit (row n) ((y - n) * 11 + x) (small n) (omega arith) in
+            let off : bitAt (row n * 2 ^ (n * 11)) (y * 11 + x) ≡ 0 =
+            ap (λ (k : ℕ). bitAt (row n * 2 ^ (n * 11)) k) at ∙ up-bit (row n) (n * 11) ((y - n) * 11 + x) ∙ high-bit (row n) ((y - n) * 11 + x) (small n) (omega arith) in
             omega (arith, o .either, more .1 (omega arith), off),
       )
     where

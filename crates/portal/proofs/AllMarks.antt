@@ -36,7 +36,9 @@ splits mark = eqb (firstOf mark) (firstPlace mark 0) && (eqb (pastOf mark) (suc 
 
 -- window j is the first window of what is left
 leads : ℕ → ℕ → Bool
-leads mark j = implies (ltb j (windowCount mark)) (ltb 0 (restAfter mark j) && (leb (restAfter mark j) 1023 && (eqb (firstPlace (restAfter mark j) 0) (firstPlace mark j) && eqb (lastPlace (restAfter mark j) 0) (lastPlace mark j))))
+leads mark j =
+    implies (ltb j (windowCount mark)) (ltb 0 (restAfter mark j) && (leb (restAfter mark j) 1023 && (eqb (firstPlace (restAfter mark j) 0) (firstPlace mark j) && eqb (lastPlace (restAfter mark j) 0)
+    (lastPlace mark j))))
 
 test : ℕ → Bool
 test mark = eqb (counted mark) (windowCount mark) && (implies (ltb 0 mark) (splits mark) && all (leads mark) 5)
@@ -108,7 +110,9 @@ module _ (mark : ℕ) (small : mark ≤ 1023) where
   lead : (j : ℕ) → j < windowCount mark → Leads mark j
   unfolding leads
   lead j h =
-      let t₁ = both (ltb 0 left) low (implied (ltb j (windowCount mark)) (ltb 0 left && low) (all-at (leads mark) 5 j (tested .2) (omega (arith, few-windows mark (omega arith)))) (lt-ltb j (windowCount mark) h)) in
+      let t₁ =
+      both (ltb 0 left) low (implied (ltb j (windowCount mark)) (ltb 0 left && low) (all-at (leads mark) 5 j (tested .2) (omega (arith, few-windows mark (omega arith))))
+      (lt-ltb j (windowCount mark) h)) in
       let t₂ = both (leb left 1023) places (t₁ .1) in
       let t₃ = both (eqb (firstPlace left 0) (firstPlace mark j)) (eqb (lastPlace left 0) (lastPlace mark j)) (t₂ .1) in
       let a = eqb-true (firstPlace left 0) (firstPlace mark j) (t₃ .0) in

@@ -77,7 +77,8 @@ pub record Filled (f : ℕ → List PortalWindow) (n i : ℕ) (xs t : List ℕ) 
   pub is : t ≡ over (f i) xs
 
 -- at a turn's end, where the windows vs were written past those of f i
-filled-turn : {f : ℕ → List PortalWindow} {n i a : ℕ} {xs t last : List ℕ} (vs : List PortalWindow) → Filled f n i xs t → i < n → a ≡ 3 * length (f i) → f (i + 1) ≡ f i ++ vs → 3 * length (f (i + 1)) ≤ length xs
+filled-turn : {f : ℕ → List PortalWindow} {n i a : ℕ} {xs t last : List ℕ} (vs : List PortalWindow) → Filled f n i xs t → i < n → a ≡ 3 * length (f i) → f (i + 1) ≡ f i ++ vs
+    → 3 * length (f (i + 1)) ≤ length xs
     → last ≡ over vs (take (length t - a) (drop a t)) → Filled f n (i + 1) xs (putMid a (length t - a) t last)
 filled-turn {f} {n} {i} {a} {xs} {t} {last} vs r l e g room came =
     let whole : take (length t - a) (drop a t) ≡ drop a t = take-all (length t - a) (drop a t) (simp length-drop (omega arith)) in
@@ -145,7 +146,8 @@ module _ {marks : List ℕ} {count k : ℕ} {xs t : List ℕ} (r : SectorFilled 
   pub sector-room : 3 * windowCount (getD marks k 0) ≤ length (take (length t - 3 * count) (drop (3 * count) t))
   sector-room = simp (length-take, length-drop) (omega (arith, next-fits))
 
-  pub sector-turn : {n : ℕ} {last : List ℕ} {side : Side} → side ≡ sideAt k → n ≡ windowCount (getD marks k 0) → last ≡ over (sideWindows side (getD marks k 0)) (take (length t - 3 * count) (drop (3 * count) t))
+  pub sector-turn : {n : ℕ} {last : List ℕ} {side : Side} → side ≡ sideAt k → n ≡ windowCount (getD marks k 0)
+      → last ≡ over (sideWindows side (getD marks k 0)) (take (length t - 3 * count) (drop (3 * count) t))
       → SectorFilled marks (count + n) (k + 1) xs (putMid (3 * count) (length t - 3 * count) t last)
   sector-turn {n} {last} {side} e c came =
       let more : windowsBy marks (k + 1) ≡ windowsBy marks k ++ sideWindows side (getD marks k 0) = rw (add-one, e) (by-more marks k) in
@@ -180,4 +182,15 @@ pub number-is : (marks : List ℕ) {a b d e : ℕ} → (getD marks 0 0 ≤ 1023 
     → (getD marks 2 0 ≤ 1023 → d ≡ windowCount (getD marks 2 0)) → (getD marks 3 0 ≤ 1023 → e ≡ windowCount (getD marks 3 0)) → FourMarks marks → a + b + d + e ≡ length (windowsBy marks 4)
 number-is marks n₀ n₁ n₂ n₃ f =
     let none : length (windowsBy marks 0) ≡ 0 = omega (arith, few-by f 0 (omega arith)) in
-    omega (arith, none, length-by marks 0, length-by marks 1, length-by marks 2, length-by marks 3, n₀ (f .small 0 (omega arith)), n₁ (f .small 1 (omega arith)), n₂ (f .small 2 (omega arith)), n₃ (f .small 3 (omega arith)))
+    omega (
+      arith,
+      none,
+      length-by marks 0,
+      length-by marks 1,
+      length-by marks 2,
+      length-by marks 3,
+      n₀ (f .small 0 (omega arith)),
+      n₁ (f .small 1 (omega arith)),
+      n₂ (f .small 2 (omega arith)),
+      n₃ (f .small 3 (omega arith)),
+    )

@@ -18,7 +18,8 @@ use Rattle.portal.specs.Marks.{openPair, openBetween}
 use Rattle.portal.proofs.Sides.{own-at, facing-at}
 
 -- ---- a place
-pub pair-yes : (costs : List ℕ) (s t : ℕ) (own facing : FieldCell) {i j : ℕ} {r q : Bool} → i ≡ indexOf own → r ≡ openAt costs (s * 100 + i) → r ≡ true → j ≡ indexOf facing → q ≡ openAt costs (t * 100 + j)
+pub pair-yes : (costs : List ℕ) (s t : ℕ) (own facing : FieldCell) {i j : ℕ} {r q : Bool} → i ≡ indexOf own → r ≡ openAt costs (s * 100 + i) → r ≡ true → j ≡ indexOf facing
+    → q ≡ openAt costs (t * 100 + j)
     → q ≡ openPair costs s own t facing
 pair-yes costs s t own facing e a h f b = rw (← e, ← f, ← a, h) b
 

@@ -28,7 +28,9 @@ over ws xs = flatWindows ws ++ drop (length (flatWindows ws)) xs
 -- how many there are
 pub length-by : (marks : List ℕ) (k : ℕ) → length (windowsBy marks (suc k)) ≡ length (windowsBy marks k) + windowCount (getD marks k 0)
 unfolding windowsBy sideWindows
-length-by marks k = length-append (windowsBy marks k) (sideWindows (sideAt k) (getD marks k 0)) ∙ ap (λ n. length (windowsBy marks k) + n) (length-tabulate (windowAt (sideAt k) (getD marks k 0)) (windowCount (getD marks k 0)) 0)
+length-by marks k =
+    length-append (windowsBy marks k) (sideWindows (sideAt k) (getD marks k 0))
+    ∙ ap (λ n. length (windowsBy marks k) + n) (length-tabulate (windowAt (sideAt k) (getD marks k 0)) (windowCount (getD marks k 0)) 0)
 
 pub few-by : {marks : List ℕ} → FourMarks marks → (k : ℕ) → k ≤ 4 → length (windowsBy marks k) ≤ 5 * k
 unfolding windowsBy

@@ -24,4 +24,5 @@ filled-next flat list n l =
     let front : List RouteStep = stepsIn n flat in
     let here : drop n list ≡ getD list n s ∷ drop (n + 1) list = drop-cons list n s l ∙ ap (λ (k : ℕ). getD list n s ∷ drop k list) (sym (add-one n)) in
     let seam : set (front ++ (getD list n s ∷ drop (n + 1) list)) n s ≡ front ++ (s ∷ drop (n + 1) list) = set-at front (getD list n s) (drop (n + 1) list) s n (length-steps-in n flat) in
-    ap (λ (t : List RouteStep). set (front ++ t) n s) here ∙ seam ∙ sym (append-assoc front (s ∷ []) (drop (n + 1) list)) ∙ ap (λ (t : List RouteStep). t ++ drop (n + 1) list) (sym (steps-in-more n flat))
+    ap (λ (t : List RouteStep). set (front ++ t) n s) here ∙ seam ∙ sym (append-assoc front (s ∷ []) (drop (n + 1) list))
+    ∙ ap (λ (t : List RouteStep). t ++ drop (n + 1) list) (sym (steps-in-more n flat))

@@ -68,14 +68,16 @@ module _ (st : List ℕ) (source goal : ℕ) where
   fronted (suc n) f tail old rest = no-steps-in _
 
   -- a route call on the part of a flat list that is room enough
-  pub flatly : (part rest : List ℕ) {room cut : ℕ} {answer : Routed} {new flat : List ℕ} → cut ≡ min room 1001 → length part / 6 ≡ cut → answer ≡ routeAnswer st source goal (length part / 6) → new ≡ routeFlat st source goal part → flat ≡ new ++ rest
+  pub flatly : (part rest : List ℕ) {room cut : ℕ} {answer : Routed} {new flat : List ℕ} → cut ≡ min room 1001 → length part / 6 ≡ cut → answer ≡ routeAnswer st source goal (length part / 6)
+      → new ≡ routeFlat st source goal part → flat ≡ new ++ rest
       → (answer ≡ routeAnswer st source goal room) × Flatly room answer flat
   unfolding routeAnswer routeFlat
   flatly part rest {room} {cut} {answer} {new} {flat} c long is came all =
       let bytes : List ℕ = flatSteps (stepList found) in
       let same : routeNumber st source goal (length part / 6) ≡ routeNumber st source goal room = ap (routeNumber st source goal) long ∙ same-number room cut c in
       let number : answer ≡ routed (routeNumber st source goal room) found = is ∙ ap (λ (k : ℕ). routed k found) same in
-      let written : flat ≡ ifAccepted (routeNumber st source goal room) (bytes ++ drop (length bytes) part) part ++ rest = all ∙ ap (λ (l : List ℕ). l ++ rest) (came ∙ ap (λ (k : ℕ). ifAccepted k (bytes ++ drop (length bytes) part) part) same) in (
+      let written : flat ≡ ifAccepted (routeNumber st source goal room) (bytes ++ drop (length bytes) part) part ++ rest =
+      all ∙ ap (λ (l : List ℕ). l ++ rest) (came ∙ ap (λ (k : ℕ). ifAccepted k (bytes ++ drop (length bytes) part) part) same) in (
         number,
         rw (number, written)
             (record { fit = counted (routeNumber st source goal room) found room (steps-fit room); holds = fronted (routeNumber st source goal room) found (drop (length bytes) part) part rest }),
@@ -86,7 +88,8 @@ module _ (st : List ℕ) (source goal : ℕ) where
       → stepsIn (routedSteps answer) flat ++ drop (routedSteps answer) list ≡ routeSteps st source goal list
   unfolding routeAnswer routeSteps routed stepList ifAccepted
   recorded {answer} list is f =
-      ap (λ (l : List RouteStep). l ++ drop (routedSteps answer) list) (f .holds) ∙ ap (λ (a : Routed). ifAccepted (routeNumber st source goal (length list)) (stepList found) [] ++ drop (routedSteps a) list) is ∙ go (routeNumber st source goal (length list)) found
+      ap (λ (l : List RouteStep). l ++ drop (routedSteps answer) list) (f .holds)
+      ∙ ap (λ (a : Routed). ifAccepted (routeNumber st source goal (length list)) (stepList found) [] ++ drop (routedSteps a) list) is ∙ go (routeNumber st source goal (length list)) found
     where
       go : (n : ℕ) (o : Found) → ifAccepted n (stepList o) [] ++ drop (routedSteps (routed n o)) list ≡ ifAccepted n (stepList o ++ drop (length (stepList o)) list) list
       go zero (route steps leg run) = refl

@@ -87,7 +87,8 @@ module _ (h : Hall) where
   pairRoute goal p e leg last = route (stepsOf h goal true (pairPath p e)) leg (costOfKey (getD (keysTo (portalGraph h) e) p 0) + last)
 
   module _ (fits : Fits h) (source goal : ℕ) {j : ℕ} (c : Chosen h source goal j) where
-    pub pair-found : throughPortals h (portalGraph h) source goal ≡ pairRoute goal (placePortal (sectorOf source) (j / sectorPortals)) (placePortal (sectorOf goal) (j % sectorPortals)) (legAt h source goal j) (lastAt h source goal j)
+    pub pair-found : throughPortals h (portalGraph h) source goal ≡ pairRoute goal (placePortal (sectorOf source) (j / sectorPortals)) (placePortal (sectorOf goal) (j % sectorPortals))
+        (legAt h source goal j) (lastAt h source goal j)
     unfolding throughPortals throughPair endOf runOf
     pair-found = rw (c .wins, leg-moves h fits source (j / 20) (omega (arith, c .low)) (c .joined-by .near-start), last-moves h fits goal (j % 20) (omega arith) (c .joined-by .near-end))
 

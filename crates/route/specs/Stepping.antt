@@ -35,7 +35,8 @@ shifted f g (suc n) i j e =
     let p : i + 0 ≡ i = omega arith in
     let q : j + 0 ≡ j = omega arith in
     let here : f i ≡ g j = rw (p, q) at (e 0) in
-    let rest : tabulate f n (suc i) ≡ tabulate g n (suc j) = shifted f g n (suc i) (suc j) (λ k. let a : suc i + k ≡ i + suc k = omega arith in let b : suc j + k ≡ j + suc k = omega arith in rw (a, b) (e (suc k))) in
+    let rest : tabulate f n (suc i) ≡ tabulate g n (suc j) =
+    shifted f g n (suc i) (suc j) (λ k. let a : suc i + k ≡ i + suc k = omega arith in let b : suc j + k ≡ j + suc k = omega arith in rw (a, b) (e (suc k))) in
     rw (here, rest)
 
 module _ (h : Hall) (goal : ℕ) where
@@ -49,7 +50,8 @@ module _ (h : Hall) (goal : ℕ) where
       let f : ℕ → RouteStep = λ k. stepAt h (getD (p ∷ q ∷ r ∷ rest) (2 * k) 0) in
       let g : ℕ → RouteStep = λ k. stepAt h (getD (r ∷ rest) (2 * k) 0) in
       let half : suc (suc (suc (length rest))) / 2 ≡ suc (suc (length rest) / 2) = omega arith in
-      let on : tabulate f (suc (length rest) / 2) 1 ≡ tabulate g (suc (length rest) / 2) 0 = shifted f g (suc (length rest) / 2) 1 0 (λ k. let two : 2 * (1 + k) ≡ suc (suc (2 * (0 + k))) = omega arith in rw two refl) in
+      let on : tabulate f (suc (length rest) / 2) 1 ≡ tabulate g (suc (length rest) / 2) 0 =
+      shifted f g (suc (length rest) / 2) 1 0 (λ k. let two : 2 * (1 + k) ≡ suc (suc (2 * (0 + k))) = omega arith in rw two refl) in
       let last : suc (suc (suc (length rest))) - 1 ≡ suc (suc (suc (length rest) - 1)) = omega arith in
       rw (half, on, last) (ap (λ (s : List RouteStep). stepAt h p ∷ s) (steps-by-place (r ∷ rest) (omega arith)))
 
@@ -72,7 +74,8 @@ length-over : (steps : List RouteStep) (xs : List ℕ) → 6 * length steps ≤ 
 length-over steps xs l = simp (length-append, length-drop) (omega (arith, length-flat steps))
 
 -- what is written past the front of a list, k places of it anew
-put-past : (front new xs : List ℕ) {t part : List ℕ} (a k : ℕ) → t ≡ front ++ drop a xs → length front ≡ a → part ≡ new ++ drop k (take (length t - a) (drop a t)) → putMid a (length t - a) t part ≡ (front ++ new) ++ drop (a + k) xs
+put-past : (front new xs : List ℕ) {t part : List ℕ} (a k : ℕ) → t ≡ front ++ drop a xs → length front ≡ a → part ≡ new ++ drop k (take (length t - a) (drop a t))
+    → putMid a (length t - a) t part ≡ (front ++ new) ++ drop (a + k) xs
 put-past front new xs {t} {part} a k is l came =
     let whole : take (length t - a) (drop a t) ≡ drop a t = take-all (length t - a) (drop a t) (simp length-drop (omega arith)) in
     let none : drop (length t - a) (drop a t) ≡ [] = drop-of-length-le (drop a t) {i = length t - a} (simp length-drop (omega arith)) in
@@ -98,7 +101,8 @@ unfolding tabulate flatSteps
 stepped-none h path count xs = record { within = omega arith; same = refl; is = refl }
 
 module _ {h : Hall} {path : List ℕ} {count i : ℕ} {xs t part : List ℕ} (r : Stepped h path count i xs t) (room : 6 * (count + 1) ≤ length xs) where
-  pub stepped-turn : {s : RouteStep} → i < count → s ≡ stepAt h (getD path (2 * i) 0) → part ≡ stepBytes s ++ drop 6 (take (length t - 6 * i) (drop (6 * i) t)) → Stepped h path count (i + 1) xs (putMid (6 * i) (length t - 6 * i) t part)
+  pub stepped-turn : {s : RouteStep} → i < count → s ≡ stepAt h (getD path (2 * i) 0) → part ≡ stepBytes s ++ drop 6 (take (length t - 6 * i) (drop (6 * i) t))
+      → Stepped h path count (i + 1) xs (putMid (6 * i) (length t - 6 * i) t part)
   stepped-turn {s} l e came =
       let steps = evenSteps h path in
       let more : steps (i + 1) ≡ steps i ++ (s ∷ []) = rw e (tabulate-more (λ k. stepAt h (getD path (2 * k) 0)) i) in
@@ -107,7 +111,8 @@ module _ {h : Hall} {path : List ℕ} {count i : ℕ} {xs t part : List ℕ} (r 
 
   -- the last step past them
   pub stepped-end : (goal n : ℕ) {s : RouteStep} → 1 ≤ n → length path ≡ n → count ≡ n / 2 → count ≤ i → s ≡ endStep h goal (getD path (n - 1) 0)
-      → part ≡ stepBytes s ++ drop 6 (take (length t - 6 * count) (drop (6 * count) t)) → putMid (6 * count) (length t - 6 * count) t part ≡ flatSteps (stepsOf h goal true path) ++ drop (6 * (n / 2 + 1)) xs
+      → part ≡ stepBytes s ++ drop 6 (take (length t - 6 * count) (drop (6 * count) t))
+      → putMid (6 * count) (length t - 6 * count) t part ≡ flatSteps (stepsOf h goal true path) ++ drop (6 * (n / 2 + 1)) xs
   stepped-end goal n {s} some long half l e came =
       let at : i ≡ count = omega (arith, r .within) in
       let is : t ≡ over (evenSteps h path count) xs = r .is ∙ ap (λ (k : ℕ). over (evenSteps h path k) xs) at in

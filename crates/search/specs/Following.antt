@@ -48,7 +48,8 @@ module _ {m : Measures} {st table : List ℕ} {keys : ℕ} (k : Linked m st tabl
         graph = record {
           numbers = k .numbers;
           room = omega (arith, few .few-sectors);
-          sound = subst (λ (g : Graph). Sound g) (ap (λ (n : Measures). tableGraph n (edgeTable (decode st))) (measures-are (k .opened)) ∙ ap (tableGraph m) (sym (k .filled))) (table-sound (fits-of (k .opened)));
+          sound = subst (λ (g : Graph). Sound g) (ap (λ (n : Measures). tableGraph n (edgeTable (decode st))) (measures-are (k .opened)) ∙ ap (tableGraph m) (sym (k .filled)))
+              (table-sound (fits-of (k .opened)));
           light = λ e l. omega (arith, low e l);
         };
       }
@@ -57,7 +58,9 @@ module _ {m : Measures} {st table : List ℕ} {keys : ℕ} (k : Linked m st tabl
       low = subst (λ (g : Graph). (e : ℕ) → e < g .arcs → g .weight e ≤ key 254) (sym graph-is) (weight-low (decode st) (fits-of (k .opened)))
 
   pub searched-both-ways : BothWays (tableGraph m table)
-  searched-both-ways = subst (λ (g : Graph). BothWays g) (ap (λ (n : Measures). tableGraph n (edgeTable (decode st))) (measures-are (k .opened)) ∙ ap (tableGraph m) (sym (k .filled))) (table-both-ways (fits-of (k .opened)))
+  searched-both-ways =
+      subst (λ (g : Graph). BothWays g) (ap (λ (n : Measures). tableGraph n (edgeTable (decode st))) (measures-are (k .opened)) ∙ ap (tableGraph m) (sym (k .filled)))
+      (table-both-ways (fits-of (k .opened)))
 
   -- its arcs lead to portals
   leads : (a : ℕ) → a < arcCount m → 0 < getD table a 0 → isPortal (decode st) (headOf (bare m) (arcTail a) (arcPlace a)) ≡ true
@@ -72,7 +75,8 @@ abbrev pub Best : Measures → List ℕ → ℕ → Type 0
 Best m st best = (best ≡ portalCount m) ⊎ (isPortal (decode st) best ≡ true)
 
 -- a rank from its parts
-pub rank-is : (st : List ℕ) (p : ℕ) {side : Side} {a b : ℕ} → side ≡ portalSide p → a ≡ cellRank (borderCell side (firstPlace (portalMark (decode st) p) (portalWindow p))) → b ≡ cellRank (borderCell side (lastPlace (portalMark (decode st) p) (portalWindow p)))
+pub rank-is : (st : List ℕ) (p : ℕ) {side : Side} {a b : ℕ} → side ≡ portalSide p → a ≡ cellRank (borderCell side (firstPlace (portalMark (decode st) p) (portalWindow p)))
+    → b ≡ cellRank (borderCell side (lastPlace (portalMark (decode st) p) (portalWindow p)))
     → ((portalSector p * 100 + a) * 100 + b) * 4 + sideNumber side ≡ nodeRank (decode st) p
 unfolding nodeRank
 rank-is st p e f g = rw (f, g, e)
@@ -105,7 +109,8 @@ module _ (m : Measures) (table : List ℕ) (rank : ℕ → ℕ) (keys : List ℕ
     pub not-better : {b : Bool} → b ≡ better (tableGraph m table) rank v best → b ≡ false → best ≡ closer (tableGraph m table) rank keys u a best
     not-better e f = next-skip (tableGraph m table) rank keys u a best (λ p q r. false≢true (sym f ∙ e ∙ ap (λ (x : ℕ). better (tableGraph m table) rank x best) head-is ∙ r))
 
-    pub goes-there : {b : Bool} → 0 < getD table a 0 → getD keys u 0 ≡ getD keys v 0 + getD table a 0 → b ≡ better (tableGraph m table) rank v best → b ≡ true → v ≡ closer (tableGraph m table) rank keys u a best
+    pub goes-there : {b : Bool} → 0 < getD table a 0 → getD keys u 0 ≡ getD keys v 0 + getD table a 0 → b ≡ better (tableGraph m table) rank v best → b ≡ true
+        → v ≡ closer (tableGraph m table) rank keys u a best
     goes-there p q e f =
         head-is
         ∙ next-take (tableGraph m table) rank keys u a best (sym from) p (q ∙ ap (λ (x : ℕ). getD keys x 0 + getD table a 0) head-is)
@@ -132,7 +137,8 @@ pub record Walked (m : Measures) (st table keys : List ℕ) (p : ℕ) (old new :
   pub tracing : Tracing (tableGraph m table) (nodeRank (decode st)) goal p keys old new u i
 
 module _ {m : Measures} {st table keys : List ℕ} (k : Linked m st table (length keys)) where
-  pub walk-begins : (p : ℕ) (old : List ℕ) → p < portalCount m → getD keys p 0 < unlinked → portalCount m ≤ length old → (e : ℕ) → e < portalCount m → keys ≡ keysTo (portalGraph (decode st)) e → Walked m st table keys p old old p 0
+  pub walk-begins : (p : ℕ) (old : List ℕ) → p < portalCount m → getD keys p 0 < unlinked → portalCount m ≤ length old → (e : ℕ) → e < portalCount m → keys ≡ keysTo (portalGraph (decode st)) e
+      → Walked m st table keys p old old p 0
   walk-begins p old l below room e le is =
       let h = decode st in
       let all : portalGraph h .nodes ≡ portalCount m = sym (ap (λ (g : Graph). g .nodes) (graph-is k)) in
@@ -166,4 +172,5 @@ module _ {m : Measures} {st table keys : List ℕ} (k : Linked m st table (lengt
     unfolding leastPath
     walk-ends z =
         let x = tracing-over (w .tracing) z in
-        subst (λ (g : Graph). (i + 1 ≡ length (path g (nodeRank (decode st)) keys (getD keys p 0) p)) × (set new i u ≡ path g (nodeRank (decode st)) keys (getD keys p 0) p ++ drop (i + 1) old)) (graph-is k) (x .1, x .0)
+        subst (λ (g : Graph). (i + 1 ≡ length (path g (nodeRank (decode st)) keys (getD keys p 0) p)) × (set new i u ≡ path g (nodeRank (decode st)) keys (getD keys p 0) p ++ drop (i + 1) old))
+        (graph-is k) (x .1, x .0)

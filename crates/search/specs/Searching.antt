@@ -44,7 +44,8 @@ module _ (m : Measures) (table d p : List ℕ) (a u : ℕ) (from : u ≡ arcTail
         let x = not-offered (tableGraph m table) d a (λ _. omega (arith, ap (λ (y : ℕ). getD d y 0) head-is, ap (λ (y : ℕ). getD d y 0) from)) in
         rw (x .0, x .1) (refl, refl)
 
-    pub accepts : 0 < getD table a 0 → getD d u 0 + getD table a 0 < getD d v 0 → (set d v (getD d u 0 + getD table a 0) ≡ relaxed (tableGraph m table) d a) × (set p v 1 ≡ awaited (tableGraph m table) d p a)
+    pub accepts : 0 < getD table a 0 → getD d u 0 + getD table a 0 < getD d v 0
+        → (set d v (getD d u 0 + getD table a 0) ≡ relaxed (tableGraph m table) d a) × (set p v 1 ≡ awaited (tableGraph m table) d p a)
     unfolding awaited
     accepts pos l =
         let x = offered (tableGraph m table) d a pos (omega (arith, ap (λ (y : ℕ). getD d y 0) head-is, ap (λ (y : ℕ). getD d y 0) from)) in

@@ -35,7 +35,8 @@ first : (mark a b : ℕ) (marks d : List ℕ) → setMark (mark ∷ marks) 0 (a 
 unfolding setMark
 first mark a b marks d = refl
 
-mark-next : (k : ℕ) (marks d : List ℕ) → k < length marks → 2 * length marks ≤ length d → setMark marks k (markBytes (take k marks) ++ drop (2 * k) d) ≡ markBytes (take (suc k) marks) ++ drop (2 * suc k) d
+mark-next : (k : ℕ) (marks d : List ℕ) → k < length marks → 2 * length marks ≤ length d
+    → setMark marks k (markBytes (take k marks) ++ drop (2 * k) d) ≡ markBytes (take (suc k) marks) ++ drop (2 * suc k) d
 unfolding markBytes
 mark-next k [] d l h = absurd (not-suc-le-zero l)
 mark-next k (mark ∷ marks) [] l h = absurd (omega arith)
@@ -49,7 +50,8 @@ pub marks-none : (marks s : List ℕ) → MarksPut marks 0 s s
 unfolding markBytes
 marks-none marks s = record { within = omega arith; same = refl; is = refl }
 
-pub marks-turn : {marks : List ℕ} {k : ℕ} {s t u : List ℕ} → MarksPut marks k s t → k < length marks → length s ≡ 2 * length marks → u ≡ setMark marks k t → length u ≡ length t → MarksPut marks (k + 1) s u
+pub marks-turn : {marks : List ℕ} {k : ℕ} {s t u : List ℕ} → MarksPut marks k s t → k < length marks → length s ≡ 2 * length marks → u ≡ setMark marks k t → length u ≡ length t
+    → MarksPut marks (k + 1) s u
 marks-turn {marks} {k} {s} {t} r l fits e same =
     record { within = omega arith; same = same ∙ r .same; is = e ∙ ap (setMark marks k) (r .is) ∙ rw add-one (mark-next k marks s l (omega arith)) }
 
@@ -82,6 +84,8 @@ written-by m base costs marks st {s₁} {s₂} {s₃} {ys} laid e₁ e₂ e₃ e
     let middle : 4 + n + length costs ≡ a = omega (arith, laid .base-cells, laid .scaled-cells) in
     let front : length ((opening ++ base) ++ costs) ≡ a = simp length-append (omega arith) in
     let whole : a + length bytes ≡ sizeOf m = omega (arith, length-markBytes marks, laid .base-cells, laid .marks-sides) in
-    let came : putMid a (a + 2 * length marks - a) s₃ ys ≡ placed a bytes s₃ = within-came a (length bytes) (a + 2 * length marks - a) (λ old. bytes) s₃ ys (add-sub-cancel-left a (2 * length marks) ∙ sym (length-markBytes marks)) e in
-    let f₄ : placed a bytes s₃ ≡ (((opening ++ base) ++ costs) ++ bytes) ++ drop (a + length bytes) st = ap (placed a bytes) (rw middle at f₃) ∙ placed-on a ((opening ++ base) ++ costs) bytes st front in
+    let came : putMid a (a + 2 * length marks - a) s₃ ys ≡ placed a bytes s₃ =
+    within-came a (length bytes) (a + 2 * length marks - a) (λ old. bytes) s₃ ys (add-sub-cancel-left a (2 * length marks) ∙ sym (length-markBytes marks)) e in
+    let f₄ : placed a bytes s₃ ≡ (((opening ++ base) ++ costs) ++ bytes) ++ drop (a + length bytes) st =
+    ap (placed a bytes) (rw middle at f₃) ∙ placed-on a ((opening ++ base) ++ costs) bytes st front in
     came ∙ rw whole at f₄ ∙ ap (λ (l : List ℕ). l ++ drop (sizeOf m) st) (together opening base costs bytes)

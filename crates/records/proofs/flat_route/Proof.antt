@@ -35,7 +35,8 @@ returns c =
     let r = c .before .before in
     let s = r .before .before in
     let a = s .before .before .before in
-    flatly _ _ _ _ _ (s .steps-room .ensures) (omega (arith, length-take (6 * s .steps-room .result) (a .args .flat .now), s .steps-room .ensures, a .pre)) (route-case _ _ _ _ (r .route .ensures .0)) (r .route .ensures .1) refl
+    flatly _ _ _ _ _ (s .steps-room .ensures) (omega (arith, length-take (6 * s .steps-room .result) (a .args .flat .now), s .steps-room .ensures, a .pre)) (route-case _ _ _ _ (r .route .ensures .0))
+    (r .route .ensures .1) refl
 
 pub flat-route-spec : {M : Type 1} → statement M
 flat-route-spec =

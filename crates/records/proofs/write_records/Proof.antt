@@ -87,8 +87,10 @@ flat-ty = sliceTy (tyRef (named 0) imm (tyInt w8))
 abbrev after : Body
 after = seq (assign (place 0 []) (rvOpd opdUnit)) return
 
-module _ {M : Type 1} (𝓤 : URA M) (H : Heap 𝓤) (A : Atoms 𝓤) (W : Given 𝓤 H A) (at-mem : Memory → SProp 𝓤) (run : Routine → Fun 𝓤) (κ κ′ : Lft) (bounds : AllOutlive 2 (write-records.signature .outlives) (κ, (κ′, tt))) (q q′ : Share)
-    (f : RefT (List ℕ)) (n : ℕ) (b o : ℕ) (γ : GName) (ys : List RouteStep) (f-room : Room u8 (length (f .now))) (n-fits : n < 2 ^ 64) (room : Room R (length ys)) (n-list : n ≤ length ys) (n-flat : 6 * n ≤ length (f .now)) where
+module _ {M : Type 1} (𝓤 : URA M) (H : Heap 𝓤) (A : Atoms 𝓤) (W : Given 𝓤 H A) (at-mem : Memory → SProp 𝓤) (run : Routine → Fun 𝓤) (κ κ′ : Lft)
+    (bounds : AllOutlive 2 (write-records.signature .outlives) (κ, (κ′, tt))) (q q′ : Share)
+    (f : RefT (List ℕ)) (n : ℕ) (b o : ℕ) (γ : GName) (ys : List RouteStep) (f-room : Room u8 (length (f .now))) (n-fits : n < 2 ^ 64) (room : Room R (length ys)) (n-list : n ≤ length ys)
+    (n-flat : 6 * n ≤ length (f .now)) where
   abbrev fs : List ℕ
   fs = f .now
 
@@ -114,12 +116,17 @@ module _ {M : Type 1} (𝓤 : URA M) (H : Heap 𝓤) (A : Atoms 𝓤) (W : Given
   abbrev Post : Val → SProp 𝓤
   Post = walkOf 𝓤 H A write-records.ended stayed (write-records.clauses 𝓤 H A at-mem run) .post (((κ, (κ′, tt)), (q, (q′, tt)), bounds, x, at), tt)
 
-  exits : (i : ℕ) → i ≡ n → ent 𝓤 (⋆ 𝓤 H A (‵ (fobs γ (codedHoleys R .code (heres R (zs i)))) ∷ ‵ (fbor κ′ (Held R (length (zs i)) b o γ)) ∷ ‵ (flft κ′ q′) ∷ ‵ (flft κ q) ∷ ‵ (ShrSlice (named 0) κ u8 .own f (fv ∷ [])) ∷ [])) (Post vunit)
+  exits : (i : ℕ) → i ≡ n → ent 𝓤 (⋆ 𝓤 H A (‵ (fobs γ (codedHoleys R .code (heres R (zs i)))) ∷ ‵ (fbor κ′ (Held R (length (zs i)) b o γ)) ∷ ‵ (flft κ′ q′) ∷ ‵ (flft κ q)
+      ∷ ‵ (ShrSlice (named 0) κ u8 .own f (fv ∷ [])) ∷ [])) (Post vunit)
   exits i e =
       qed W (‵ (fobs γ (codedHoleys R .code (heres R (zs i)))) ∷ ‵ (fbor κ′ (Held R (length (zs i)) b o γ)) ∷ ‵ (flft κ′ q′) ∷ ‵ (flft κ q) ∷ ‵ (ShrSlice (named 0) κ u8 .own f (fv ∷ [])) ∷ []) ∵
-      suffices ! _ (ends-at 𝓤 H A write-records.ended stayed (write-records.clauses 𝓤 H A at-mem run) W (((κ, (κ′, tt)), (q, (q′, tt)), bounds, x, at), tt) vunit tt (tt, (tt, (zs i, tt))) (tt, (tt, (long i (omega arith), tt)))) $ says ! (ap zs e) $
+      suffices ! _ (ends-at 𝓤 H A write-records.ended stayed (write-records.clauses 𝓤 H A at-mem run) W (((κ, (κ′, tt)), (q, (q′, tt)), bounds, x, at), tt) vunit tt (tt, (tt, (zs i, tt)))
+      (tt, (tt, (long i (omega arith), tt)))) $ says ! (ap zs e) $
       nothing ! $ move ! (3 ∷ 0 ∷ []) $ join ! $ move ! (3 ∷ 0 ∷ []) $ join ! $ frame ! $
-      fjoin ! $ pureI ! (at-slice R (record { ptr = (b, o); name = γ; now = zs i }) (s ∷ [])) (tt, (tt, tt)) (ap (λ (m : ℕ). sliceVal (b, o) m ∷ []) (sym (long i (omega arith))), subst (Room R) (sym (long i (omega arith))) room) $ fjoin ! $
+      fjoin ! $ pureI ! (at-slice R (record { ptr = (b, o); name = γ; now = zs i }) (s ∷ [])) (tt, (tt, tt)) (
+        ap (λ (m : ℕ). sliceVal (b, o) m ∷ []) (sym (long i (omega arith))),
+        subst (Room R) (sym (long i (omega arith))) room,
+      ) $ fjoin ! $
       nothing ! $ move ! (1 ∷ 0 ∷ []) $ fjoin ! $ owned ! usize (Is usize) (uint-makes 𝓤 H A W w64) n _ (refl, n-fits) $ fjoin ! $ move ! (1 ∷ 0 ∷ []) $ fjoin ! $ frame ! $
       feqI ! (List Val) (vunit ∷ []) (vunit ∷ []) refl $ done !
 
@@ -156,7 +163,8 @@ module _ {M : Type 1} (𝓤 : URA M) (H : Heap 𝓤) (A : Atoms 𝓤) (W : Given
 
     abbrev At : Upto → List (Item 𝓤)
     At i = ‵ (froom tyPtr l₈ 0) ∷ ‵ (fdies tyPtr l₈) ∷ ‵ (froom (tyInt w64) l₇ 0) ∷ ‵ (fdies (tyInt w64) l₇) ∷ ‵ (froom T′.mir l₆ 0) ∷ ‵ (fdies T′.mir l₆) ∷ ‵ (froom tyBool l₅ 0) ∷ ‵ (fdies tyBool l₅)
-        ∷ ‵ (fat fullShare (tyInt w64) l₄ 0 (vint w64 (i .0))) ∷ ‵ (fdies (tyInt w64) l₄) ∷ ‵ (fat fullShare list-ty l₃ 0 s) ∷ ‵ (fdies list-ty l₃) ∷ ‵ (fat fullShare (tyInt w64) l₂ 0 (vint w64 n)) ∷ ‵ (fdies (tyInt w64) l₂)
+        ∷ ‵ (fat fullShare (tyInt w64) l₄ 0 (vint w64 (i .0))) ∷ ‵ (fdies (tyInt w64) l₄) ∷ ‵ (fat fullShare list-ty l₃ 0 s) ∷ ‵ (fdies list-ty l₃) ∷ ‵ (fat fullShare (tyInt w64) l₂ 0 (vint w64 n))
+        ∷ ‵ (fdies (tyInt w64) l₂)
         ∷ ‵ (fat fullShare flat-ty l₁ 0 fv) ∷ ‵ (fdies flat-ty l₁) ∷ ‵ (froom tyUnit l₀ 0) ∷ ‵ (fdies tyUnit l₀)
         ∷ ‵ (fobs γ (codedHoleys R .code (heres R (zs (i .0))))) ∷ ‵ (fbor κ′ (Held R (length (zs (i .0))) b o γ)) ∷ ‵ (flft κ′ q′) ∷ ‵ (flft κ q) ∷ ‵ (ShrSlice (named 0) κ u8 .own f (fv ∷ [])) ∷ []
 
@@ -182,14 +190,16 @@ module _ {M : Type 1} (𝓤 : URA M) (H : Heap 𝓤) (A : Atoms 𝓤) (W : Given
         move ! (22 ∷ []) $ use1 W (‵ (ShrSlice (named 0) κ u8 .own f (fv ∷ [])) ⊛ ‵ (ShrSlice (named 0) κ u8 .own f (fv ∷ []))) (shr-slice-copy 𝓤 H A W (named 0) κ u8 .twice f (fv ∷ [])) $ split ! $
         move ! (23 ∷ 0 ∷ []) $ use2 W (raw (StepIn 𝓤 H A at-mem run .pre (to k))) (goes-to k (omega arith) within) $
         calls-at ! fm (StepIn 𝓤 H A at-mem run) known (to k) (and-then ! (load ! (from ! (stop !)) (look ! 16 refl)) (and-then ! (load ! (from ! (stop !)) (look ! 10 refl)) (no-more !))) (λ w.
-        use1 W (later (some (λ (r : RouteStep). ((‵ (flft κ q) ⊛ ‵ ftrue) ⊛ ‵ (R .own r (w ∷ []))) ⊛ raw (ensured 𝓤 H A step-in.ended (step-in.clauses 𝓤 H A at-mem run) (κ, tt) (f, (k, tt)) tt r)))) (id⊢ 𝓤 _) $ await ! tt $ pick ! (λ r.
+        use1 W (later (some (λ (r : RouteStep). ((‵ (flft κ q) ⊛ ‵ ftrue) ⊛ ‵ (R .own r (w ∷ []))) ⊛ raw (ensured 𝓤 H A step-in.ended (step-in.clauses 𝓤 H A at-mem run) (κ, tt) (f, (k, tt)) tt r))))
+        (id⊢ 𝓤 _) $ await ! tt $ pick ! (λ r.
         split ! $ move ! (1 ∷ []) $ use1 W (raw (fact 𝓤 (r ≡ stepIn fs k))) (said k r) $ heard ! (r ≡ stepIn fs k) (λ e. split ! $ move ! (1 ∷ []) $ peeks ! R (Is R) (shows 𝓤 H A R) r (w ∷ []) (λ is.
         -- [what r owns; the token; the slice; _8; …; _7; …; _6; …; _5; …; _4; …; _3; …; _2; …; _1; …; _0; …; obs; the borrow; its token]
         land ! (from ! (stop !)) (init ! 7 refl (LL.lawful T.the-type T′.the-laws 𝓤 H A W .typed r _ is .0)) $
         assigns ! (bin ! (load ! (from ! (stop !)) (look ! 11 refl)) (lit ! tt) (record { fits = far })) (from ! (stop !)) (init ! 5 refl (tt, record { fits = far })) $
         assigns ! (bin ! (load ! (from ! (fld ! refl (stop !))) (look-in ! 13 (sub ! 0 refl (whole !)))) (load ! (from ! (stop !)) (look ! 5 refl)) tt) (from ! (stop !)) (init ! 3 refl (tt, tt)) $
         rewrite ! 3 (λ (p : ℕ). ‵ (fat fullShare tyPtr l₈ 0 (vptr b p))) (sym (place-is 6 o k)) refl $
-        move ! (21 ∷ 22 ∷ 23 ∷ []) $ opens-slice ! tt R (zs k) b o $ elem-out ! R (Is R) (shows 𝓤 H A R) (LL.vals T.the-type T′.the-laws) (LL.tells T.the-type T′.the-laws) fullShare (zs k) k r b o inside (λ _.
+        move ! (21 ∷ 22 ∷ 23 ∷ []) $ opens-slice ! tt R (zs k) b o $
+        elem-out ! R (Is R) (shows 𝓤 H A R) (LL.vals T.the-type T′.the-laws) (LL.tells T.the-type T′.the-laws) fullShare (zs k) k r b o inside (λ _.
         assigns ! (of-opd ! (load ! (from ! (stop !)) (look ! 13 refl))) (from ! (hop ! (look ! 9 refl) (stop !))) (store-raw ! 0 refl (LL.lawful T.the-type T′.the-laws 𝓤 H A W .typed r _ is .0)) $
         move ! (1 ∷ []) $ drop ! $ move ! (0 ∷ 5 ∷ 1 ∷ []) $ elem-put ! R fullShare (zs k) k r (w ∷ []) b o inside $ closes-slice ! tt R (zs k) (set (zs k) k r) (length-set (zs k) k r) b o $
         -- [obs; the borrow; its token; the other token; the slice; _8; …; _7; …; _6; …; _5; …; _4; …]
@@ -208,7 +218,8 @@ module _ {M : Type 1} (𝓤 : URA M) (H : Heap 𝓤) (A : Atoms 𝓤) (W : Given
         rewrite ! 6 (λ (t : Bool). ‵ (fat fullShare tyBool l₅ 0 (vbool t))) over refl $ leaves-loop ! (load ! (from ! (stop !)) (look ! 6 refl)) $ exec ! C Λ En after (atRet En Post) $
         assigns ! (of-opd ! (unit-lit !)) (from ! (stop !)) (init ! 16 refl (tt, tt)) $
         returns ! (look ! 16 refl) $ forget ! 6 refl $ forget ! 8 refl $ forget ! 10 refl $ forget ! 12 refl $ forget ! 14 refl $ forget ! 16 refl $
-        move ! (16 ∷ 17 ∷ []) $ free1 ! $ move ! (14 ∷ 15 ∷ []) $ free1 ! $ move ! (12 ∷ 13 ∷ []) $ free1 ! $ move ! (10 ∷ 11 ∷ []) $ free1 ! $ move ! (8 ∷ 9 ∷ []) $ free1 ! $ move ! (6 ∷ 7 ∷ []) $ free1 ! $ move ! (4 ∷ 5 ∷ []) $ free1 ! $ move ! (2 ∷ 3 ∷ []) $ free1 ! $ free1 ! $ free0 ! $
+        move ! (16 ∷ 17 ∷ []) $ free1 ! $ move ! (14 ∷ 15 ∷ []) $ free1 ! $ move ! (12 ∷ 13 ∷ []) $ free1 ! $ move ! (10 ∷ 11 ∷ []) $ free1 ! $ move ! (8 ∷ 9 ∷ []) $ free1 ! $ move ! (6 ∷ 7 ∷ []) $
+        free1 ! $ move ! (4 ∷ 5 ∷ []) $ free1 ! $ move ! (2 ∷ 3 ∷ []) $ free1 ! $ free1 ! $ free0 ! $
         by ! (exits (i .0) (le-antisymm (i .1) (ltb-false (i .0) n over)))
 
     turns : (i : Upto) → Sq W (At i) (runs C Λ En turn (anyQ (Turned i)))
@@ -218,11 +229,14 @@ module _ {M : Type 1} (𝓤 : URA M) (H : Heap 𝓤) (A : Atoms 𝓤) (W : Given
         go true e = more i e
         go false e = ends i e
 
-  walk : (𝓣 : Tables 𝓤 H) → FmC 𝓤 H (W .laws) (𝓣 .C) → Triple 𝓤 (𝓣 .C #fields·step-in) (StepIn 𝓤 H A at-mem run) → ent 𝓤 (onEntry 𝓤 H A write-records.signature (κ, (κ′, tt)) (q, (q′, tt)) x at) (WpFn 𝓤 H (𝓣 .C) (𝓣 .Λ) code.function (fv ∷ vint w64 n ∷ s ∷ []) Post)
+  walk : (𝓣 : Tables 𝓤 H) → FmC 𝓤 H (W .laws) (𝓣 .C) → Triple 𝓤 (𝓣 .C #fields·step-in) (StepIn 𝓤 H A at-mem run)
+      → ent 𝓤 (onEntry 𝓤 H A write-records.signature (κ, (κ′, tt)) (q, (q′, tt)) x at) (WpFn 𝓤 H (𝓣 .C) (𝓣 .Λ) code.function (fv ∷ vint w64 n ∷ s ∷ []) Post)
   walk 𝓣 fm known =
-      qed W ((‵ (flft κ q) ⊛ ‵ (flft κ′ q′) ⊛ ‵ ftrue) ∷ ‵ (owns (ShrSlice (named 0) κ u8 ∷ usize ∷ MutSlice (named 1) κ′ R ∷ []) x at) ∷ []) ∵ enter ! (𝓣 .C) (𝓣 .Λ) code.function (fv ∷ vint w64 n ∷ s ∷ []) _ $
+      qed W ((‵ (flft κ q) ⊛ ‵ (flft κ′ q′) ⊛ ‵ ftrue) ∷ ‵ (owns (ShrSlice (named 0) κ u8 ∷ usize ∷ MutSlice (named 1) κ′ R ∷ []) x at) ∷ []) ∵ enter ! (𝓣 .C)
+      (𝓣 .Λ) code.function (fv ∷ vint w64 n ∷ s ∷ []) _ $
       alloc1 ! (λ l₀. alloc1 ! (λ l₁. alloc1 ! (λ l₂. alloc1 ! (λ l₃. alloc1 ! (λ l₄. alloc1 ! (λ l₅. alloc1 ! (λ l₆. alloc1 ! (λ l₇. alloc1 ! (λ l₈. alloc0 ! $ params1 ! $
-      pass1 ! (init ! 14 refl (tt, (tt, (record { fits = f-room .0 }, tt)))) $ pass1 ! (init ! 12 refl (tt, record { fits = n-fits })) $ pass1 ! (init ! 10 refl (tt, (tt, (record { fits = room .0 }, tt)))) $ pass0 ! $
+      pass1 ! (init ! 14 refl (tt, (tt, (record { fits = f-room .0 }, tt)))) $ pass1 ! (init ! 12 refl (tt, record { fits = n-fits })) $
+      pass1 ! (init ! 10 refl (tt, (tt, (record { fits = room .0 }, tt)))) $ pass0 ! $
       assigns ! (of-opd ! (lit ! tt)) (from ! (stop !)) (init ! 8 refl (tt, record { fits = lit< tt })) $
       -- the parameters' parts: what flat owns, and obs and the borrow of the list
       move ! (19 ∷ []) $ fsplit ! $ move ! (1 ∷ []) $ fsplit ! $ drop ! $ fsplit ! $ fsplit ! $ drop ! $ fsplit ! $
@@ -235,17 +249,23 @@ module _ {M : Type 1} (𝓤 : URA M) (H : Heap 𝓤) (A : Atoms 𝓤) (W : Given
       first ! $ blocks ! $ loops ! 𝓣 Nearer Nearer-wf (At 𝓣 fm known l₀ l₁ l₂ l₃ l₄ l₅ l₆ l₇ l₈) (turns 𝓣 fm known l₀ l₁ l₂ l₃ l₄ l₅ l₆ l₇ l₈) (0, zero-le))))))))))
 
 module _ {M : Type 1} (𝓤 : URA M) (H : Heap 𝓤) (A : Atoms 𝓤) (W : Given 𝓤 H A) (at-mem : Memory → SProp 𝓤) (run : Routine → Fun 𝓤) where
-  write-records-walks : (𝓣 : Tables 𝓤 H) → FmC 𝓤 H (W .laws) (𝓣 .C) → Triple 𝓤 (𝓣 .C #fields·step-in) (StepIn 𝓤 H A at-mem run) → Walks 𝓤 H A write-records.ended stayed (WpFn 𝓤 H (𝓣 .C) (𝓣 .Λ) code.function) (write-records.clauses 𝓤 H A at-mem run)
-  write-records-walks 𝓣 fm known = walked 𝓤 H A write-records.ended stayed (write-records.clauses 𝓤 H A at-mem run) (WpFn 𝓤 H (𝓣 .C) (𝓣 .Λ) code.function) (λ κs. (slice-vals, (uint-vals w64, (slice-vals, tt)))) (λ κs. (shr-slice-tells (named 0) (κs .0) u8, (uint-tells w64, (mut-slice-tells (named 1) (κs .1 .0) R, tt))))
+  write-records-walks : (𝓣 : Tables 𝓤 H) → FmC 𝓤 H (W .laws) (𝓣 .C) → Triple 𝓤 (𝓣 .C #fields·step-in) (StepIn 𝓤 H A at-mem run)
+      → Walks 𝓤 H A write-records.ended stayed (WpFn 𝓤 H (𝓣 .C) (𝓣 .Λ) code.function) (write-records.clauses 𝓤 H A at-mem run)
+  write-records-walks 𝓣 fm known =
+      walked 𝓤 H A write-records.ended stayed (write-records.clauses 𝓤 H A at-mem run) (WpFn 𝓤 H (𝓣 .C) (𝓣 .Λ) code.function) (λ κs. (slice-vals, (uint-vals w64, (slice-vals, tt))))
+      (λ κs. (shr-slice-tells (named 0) (κs .0) u8, (uint-tells w64, (mut-slice-tells (named 1) (κs .1 .0) R, tt))))
       (λ κs qs bounds a g are. needs 𝓤 ((a .1 .0 ≤ length (now (a .1 .1 .0))) × (6 * a .1 .0 ≤ length (now (a .0)))) _ (λ asked.
-      walk 𝓤 H A W at-mem run (κs .0) (κs .1 .0) bounds (qs .0) (qs .1 .0) (a .0) (a .1 .0) (a .1 .1 .0 .ptr .0) (a .1 .1 .0 .ptr .1) (a .1 .1 .0 .name) (a .1 .1 .0 .now) (are .0 .0 .1) (are .1 .0 .1) (are .1 .1 .0 .0 .1) (asked .0) (asked .1) 𝓣 fm known))
+      walk 𝓤 H A W at-mem run (κs .0) (κs .1 .0) bounds (qs .0) (qs .1 .0) (a .0) (a .1 .0) (a .1 .1 .0 .ptr .0) (a .1 .1 .0 .ptr .1) (a .1 .1 .0 .name) (a .1 .1 .0 .now) (are .0 .0 .1)
+      (are .1 .0 .1) (are .1 .1 .0 .0 .1) (asked .0) (asked .1) 𝓣 fm known))
 
   goes : AllGo 𝓤 H A W 2 (write-records.signature .params) (write-records.ended .kept) stayed
   goes = (goes-none-slice 𝓤 H A W 2 (0 ∷ []) tt (plain (λ _. u8)) yes, (goes-none 𝓤 H A W 2 (λ _. usize) yes (λ κs x f. refl), (goes-slice 𝓤 H A W 2 1 tt (plain (λ _. R)), tt)))
 
-write-records-meets : {M : Type 1} (𝓤 : URA M) (H : Heap 𝓤) (A : Atoms 𝓤) (W : Given 𝓤 H A) (at-mem : Memory → SProp 𝓤) (run : Routine → Fun 𝓤) (𝓣 : Tables 𝓤 H) → Triple 𝓤 (𝓣 .C #fields·step-in) (StepIn 𝓤 H A at-mem run)
+write-records-meets : {M : Type 1} (𝓤 : URA M) (H : Heap 𝓤) (A : Atoms 𝓤) (W : Given 𝓤 H A) (at-mem : Memory → SProp 𝓤) (run : Routine → Fun 𝓤) (𝓣 : Tables 𝓤 H)
+    → Triple 𝓤 (𝓣 .C #fields·step-in) (StepIn 𝓤 H A at-mem run)
     → Meets 𝓤 H A write-records.signature (WpFn 𝓤 H (𝓣 .C) (𝓣 .Λ) code.function) (write-records.spec 𝓤 H A at-mem run)
-write-records-meets 𝓤 H A W at-mem run 𝓣 known = walk-meets 𝓤 H A write-records.ended stayed W (goes 𝓤 H A W at-mem run) (write-records.clauses 𝓤 H A at-mem run) (WpFn 𝓤 H (𝓣 .C) (𝓣 .Λ) code.function) (WpFn-mono 𝓤 H (W .laws) 𝓣 code.function)
+write-records-meets 𝓤 H A W at-mem run 𝓣 known =
+    walk-meets 𝓤 H A write-records.ended stayed W (goes 𝓤 H A W at-mem run) (write-records.clauses 𝓤 H A at-mem run) (WpFn 𝓤 H (𝓣 .C) (𝓣 .Λ) code.function) (WpFn-mono 𝓤 H (W .laws) 𝓣 code.function)
     (write-records-walks 𝓤 H A W at-mem run 𝓣 (fmOf 𝓤 H (W .laws) 𝓣) known)
 
 pub write-records-spec : {M : Type 1} → stated.statement M

@@ -29,7 +29,8 @@ returns c =
     let facing = c .before .before in
     let there = facing .before in
     let edge = there .before .before in
-    exceeds-edge _ _ _ _ (edge .before .before .before .args .i) (edge .before .side-at .ensures) (edge .is-edge .ensures) (there .before .if1 .taken) (there .beyond .ensures) (facing .opposite .ensures) (c .before .windows-on .ensures) (c .windows-on2 .ensures)
+    exceeds-edge _ _ _ _ (edge .before .before .before .args .i) (edge .before .side-at .ensures) (edge .is-edge .ensures) (there .before .if1 .taken) (there .beyond .ensures)
+    (facing .opposite .ensures) (c .before .windows-on .ensures) (c .windows-on2 .ensures)
 
 returns-2 : tie.Need-returns-2
 returns-2 c = exceeds-not _ _ _ _ (c .before .before .before .before .args .i) (c .before .before .side-at .ensures) (c .before .is-edge .ensures) (c .if1 .left)

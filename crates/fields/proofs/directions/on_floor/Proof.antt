@@ -32,7 +32,8 @@ on-axis-requires-2 c κs = search needs
 
 returns : tie.Need-returns
 unfolding onFloor
-returns c = rw (← c .before .before .before .before .wide .ensures .0, ← c .before .before .before .wide2 .ensures .0, ← c .before .before .on-axis .ensures, c .before .if1 .taken) (c .on-axis2 .ensures)
+returns c =
+    rw (← c .before .before .before .before .wide .ensures .0, ← c .before .before .before .wide2 .ensures .0, ← c .before .before .on-axis .ensures, c .before .if1 .taken) (c .on-axis2 .ensures)
 
 returns-2 : tie.Need-returns-2
 unfolding onFloor

@@ -48,7 +48,8 @@ same-length c = search needs
 returns : tie.Need-returns
 returns c =
     let at = c .before .before .before .before .before in
-    c .before .before .clear-places .ensures .grown _ _ (S at .pre .0 .3) (λ k l. weight-none (H at) (S at .args .p) k l (inside at k l) (own-none (H at) (S at .args .p) (S at .pre .0 .2) (fits-of (S at .pre .0 .0)) (c .before .before .before .before .if1 .taken)))
+    c .before .before .clear-places .ensures .grown _ _ (S at .pre .0 .3)
+    (λ k l. weight-none (H at) (S at .args .p) k l (inside at k l) (own-none (H at) (S at .args .p) (S at .pre .0 .2) (fits-of (S at .pre .0 .0)) (c .before .before .before .before .if1 .taken)))
 
 mul-moves-from : tie.Need-mul-moves-from
 mul-moves-from c = omega (arith, few (c .before))
@@ -63,8 +64,13 @@ moves-from-requires : tie.Need-moves-from-requires
 moves-from-requires c κs =
     let at = c .before .before .before in
     let p = S at .args .p in
-    let sector : p / 20 ≡ (p / 20 * 100 + c .before .wide .result) / 100 = omega (arith, c .before .wide .ensures .0, c .before .before .if1 .left) in
-    (S at .pre .0 .0, omega (arith, S at .pre .0 .1, c .before .wide .ensures .0, c .before .before .if1 .left), S at .pre .1 .0 ∙ ap (λ (k : ℕ). openWords (costsOf (H at .scaled) k)) sector, S at .pre .1 .1)
+    let sector : p / 20 ≡ (p / 20 * 100 + c .before .wide .result) / 100 = omega (arith, c .before .wide .ensures .0, c .before .before .if1 .left) in (
+      S at .pre .0 .0,
+      omega (arith, S at .pre .0 .1, c .before .wide .ensures .0, c .before .before .if1 .left),
+      S at .pre .1 .0
+          ∙ ap (λ (k : ℕ). openWords (costsOf (H at .scaled) k)) sector,
+      S at .pre .1 .1,
+    )
 
 outer-edge-requires : tie.Need-outer-edge-requires
 outer-edge-requires c κs = search needs
@@ -88,8 +94,11 @@ returns-2 c =
     let at = c .before .before .before .before .before .before .before .before .before .before .before .before in
     let p = S at .args .p in
     let own = own-some (H at) p (S at .pre .0 .2) (c .before .before .before .before .before .before .before .before .before .before .before .if1 .left) in
-    let moves = moves-own (H at) p (found .result) refl (found .ensures .0 ∙ own .1) (omega (arith, found .ensures .0, c .before .before .before .before .before .before .before .before .before .before .before .if1 .left)) (spread .found) in
-    c .before .before .fill-places .ensures .grown _ _ (S at .pre .0 .3) (λ k l. weight-by (H at) p k l (inside at k l) (fits-of (S at .pre .0 .0)) (own .0) moves (S at .pre .0 .2) (c .before .before .before .before .before .outer-edge .ensures))
+    let moves =
+    moves-own (H at) p (found .result) refl (found .ensures .0 ∙ own .1)
+    (omega (arith, found .ensures .0, c .before .before .before .before .before .before .before .before .before .before .before .if1 .left)) (spread .found) in
+    c .before .before .fill-places .ensures .grown _ _ (S at .pre .0 .3)
+    (λ k l. weight-by (H at) p k l (inside at k l) (fits-of (S at .pre .0 .0)) (own .0) moves (S at .pre .0 .2) (c .before .before .before .before .before .outer-edge .ensures))
 
 pub fill-number-spec : {M : Type 1} → statement M
 fill-number-spec =

@@ -79,7 +79,8 @@ loop-less : tie.Need-loop-less Inv-loop μ-loop
 loop-less c = omega arith
 
 loop-again : tie.Need-loop-again Inv-loop μ-loop
-loop-again c = (omega (arith, c .before .before .before .before .before .before .before .before .loop-test .taken), tabled-at (c .before .before .before .fill-number .ensures) (omega arith), search needs)
+loop-again c =
+    (omega (arith, c .before .before .before .before .before .before .before .before .loop-test .taken), tabled-at (c .before .before .before .fill-number .ensures) (omega arith), search needs)
 
 same-length : tie.Need-same-length Inv-loop μ-loop
 same-length c = c .before .loop .inv .1 .long ∙ sym (S (c .before .before) .pre .2 .long)

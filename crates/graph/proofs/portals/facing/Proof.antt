@@ -22,7 +22,8 @@ near : (c : tie.After-side-number) → c .side-number .result < 4
 near c = omega (arith, c .side-number .ensures, side-low (c .before .opposite .result))
 
 -- the number, over plain values
-same : (m : Measures) (p : ℕ) {side back : Side} {s k : ℕ} → side ≡ sideAt (p % 20 / 5) → s ≡ beyond m (p / 20) side → back ≡ opposite side → k ≡ sideNumber back → s * 20 + k * 5 + p % 5 ≡ facing (bare m) p
+same : (m : Measures) (p : ℕ) {side back : Side} {s k : ℕ} → side ≡ sideAt (p % 20 / 5) → s ≡ beyond m (p / 20) side → back ≡ opposite side → k ≡ sideNumber back
+    → s * 20 + k * 5 + p % 5 ≡ facing (bare m) p
 unfolding facing
 same m p e f g k = rw (k, g, f, e)
 

@@ -47,8 +47,10 @@ returns-5 c = search (needs, refuse-here, refuse-past, le-ltb, sectors-found, sc
 any-bad-mark-requires : tie.Need-any-bad-mark-requires
 any-bad-mark-requires c κs =
     let scale = c .before .before .before .before in
-    let sides = scale .before .before in
-    (accepted _ (flag (sides .before .bad-sectors .ensures) (sides .if2 .left)) (flag (scale .before .bad-scale .ensures) (scale .if3 .left)), ltb-false _ _ (flag (c .before .too-short .ensures) (c .if5 .left)))
+    let sides = scale .before .before in (
+      accepted _ (flag (sides .before .bad-sectors .ensures) (sides .if2 .left)) (flag (scale .before .bad-scale .ensures) (scale .if3 .left)),
+      ltb-false _ _ (flag (c .before .too-short .ensures) (c .if5 .left)),
+    )
 
 returns-6 : tie.Need-returns-6
 unfolding checkNumber

@@ -40,7 +40,8 @@ returns-4 c =
     let e = f .before .before in
     let n = e .before .before in
     let m = n .before in
-    routed-all _ _ _ _ (m .before .before .check-store .ensures) (m .before .if1 .left) (m .measures-at .ensures) (n .cells .ensures) (e .before .if2 .left) (e .if3 .left) (f .find-path .ensures .0) (f .find-path .ensures .1)
+    routed-all _ _ _ _ (m .before .before .check-store .ensures) (m .before .if1 .left) (m .measures-at .ensures) (n .cells .ensures) (e .before .if2 .left) (e .if3 .left) (f .find-path .ensures .0)
+    (f .find-path .ensures .1)
 
 pub route-spec : {M : Type 1} → statement M
 route-spec =

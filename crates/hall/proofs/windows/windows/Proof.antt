@@ -33,7 +33,8 @@ returns-3 c =
     let n = c .before in
     let s = n .before .before in
     let m = s .before .before in
-    refused-27 _ _ _ (m .before .before .check-store .ensures) (m .before .if1 .left) (m .measures-at .ensures) (s .before .sectors .ensures) (s .if2 .left) (n .before .sector-marks .ensures) (n .windows-number .ensures) (c .if3 .taken)
+    refused-27 _ _ _ (m .before .before .check-store .ensures) (m .before .if1 .left) (m .measures-at .ensures) (s .before .sectors .ensures) (s .if2 .left) (n .before .sector-marks .ensures)
+    (n .windows-number .ensures) (c .if3 .taken)
 
 sector-windows-requires : tie.Need-sector-windows-requires
 sector-windows-requires c κs = search (needs, listing)
@@ -51,7 +52,8 @@ returns-4 c =
     let n = e .before in
     let s = n .before .before in
     let m = s .before .before in
-    listed-all _ _ _ (m .before .before .check-store .ensures) (m .before .if1 .left) (m .measures-at .ensures) (s .before .sectors .ensures) (s .if2 .left) (n .before .sector-marks .ensures) (n .windows-number .ensures) (e .if3 .left) (c .byte .ensures) (l .sector-windows .ensures .0) (l .sector-windows .ensures .1)
+    listed-all _ _ _ (m .before .before .check-store .ensures) (m .before .if1 .left) (m .measures-at .ensures) (s .before .sectors .ensures) (s .if2 .left) (n .before .sector-marks .ensures)
+    (n .windows-number .ensures) (e .if3 .left) (c .byte .ensures) (l .sector-windows .ensures .0) (l .sector-windows .ensures .1)
 
 pub windows-spec : {M : Type 1} → statement M
 windows-spec =

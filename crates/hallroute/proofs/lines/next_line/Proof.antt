@@ -44,7 +44,8 @@ returns-2 : tie.Need-returns-2
 returns-2 c =
     let p = c .before .before .before .before in
     let goal = p .before .before .before in
-    pair-line _ _ _ _ (goal .before .before .if1 .left) (goal .before .u16-at .ensures .0) (goal .u16-at2 .ensures .0) (p .pair-line .ensures .0 .0) (p .pair-line .ensures .0 .1) (p .pair-line .ensures .1)
+    pair-line _ _ _ _ (goal .before .before .if1 .left) (goal .before .u16-at .ensures .0) (goal .u16-at2 .ensures .0) (p .pair-line .ensures .0 .0) (p .pair-line .ensures .0 .1)
+    (p .pair-line .ensures .1)
 
 pub next-line-spec : {M : Type 1} → statement M
 next-line-spec =

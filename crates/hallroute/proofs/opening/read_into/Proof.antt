@@ -29,7 +29,8 @@ returns c =
     let built = c .before .before in
     let known = built .before .before .before .before in
     let read = known .before .before .before .before in
-    file-built _ _ _ (search needs) (search needs) (sym (known .m .given .1) ∙ read-case _ _ (read .read-file .ensures .0)) (search needs) (read .read-file .ensures .1) (built .build .ensures .0) (built .build .ensures .1)
+    file-built _ _ _ (search needs) (search needs) (sym (known .m .given .1) ∙ read-case _ _ (read .read-file .ensures .0)) (search needs) (read .read-file .ensures .1) (built .build .ensures .0)
+    (built .build .ensures .1)
 
 same-length-3 : tie.Need-same-length-3
 same-length-3 c = search needs

@@ -47,7 +47,8 @@ loop-again c = (omega arith, packed-more _ _ (c .before .before .before .loop .i
 
 returns : tie.Need-returns Inv-loop μ-loop
 unfolding openWord
-returns c = let start = c .before .before .before in c .before .loop .inv .1 ∙ ap (λ (n : ℕ). packed (λ k. openRow (now (start .args .costs)) (start .args .h * 5 + k)) n) (omega (arith, c .before .loop .inv .0, c .loop-test .left))
+returns c = let start = c .before .before .before in c .before .loop .inv .1 ∙ ap (λ (n : ℕ).
+    packed (λ k. openRow (now (start .args .costs)) (start .args .h * 5 + k)) n) (omega (arith, c .before .loop .inv .0, c .loop-test .left))
 
 pub open-word-spec : {M : Type 1} → statement M
 open-word-spec =

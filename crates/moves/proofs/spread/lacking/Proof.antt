@@ -54,7 +54,12 @@ unfolding missing
 loop-again c = (omega arith, omega arith, rw (add-one (c .before .before .loop .d), c .before .before .before .spot-of .ensures .0) (omega (arith, c .before .before .loop .inv .2)))
 
 returns : tie.Need-returns Inv-loop μ-loop
-returns c = c .before .loop .inv .2 ∙ ap (λ (k : ℕ). missing (now (c .before .before .before .before .args .levels)) k (c .before .before .before .before .args .i)) (omega (arith, c .before .loop .inv .0, c .loop-test .left))
+returns c =
+    c .before .loop .inv .2 ∙ ap (λ (k : ℕ). missing (now (c .before .before .before .before .args .levels)) k (c .before .before .before .before .args .i)) (omega (
+      arith,
+      c .before .loop .inv .0,
+      c .loop-test .left,
+    ))
 
 pub lacking-spec : {M : Type 1} → statement M
 lacking-spec =

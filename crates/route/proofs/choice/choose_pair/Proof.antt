@@ -83,7 +83,8 @@ returns-2 c =
     let s = S g in
     let given = s .pre .0 in
     first-pair (given .0 .graph .sound) (s .pre .1) (s .args .p) (s .args .q) (given .1) (given .2) (now (s .args .legs)) (now (s .args .lasts)) (replicate 20 0) zero-at
-    (g .keys-to-goal .last .1 .1 .1 .1 .0) (g .keys-to-goal .ensures) (e .before .first-place .ensures) (omega (arith, e .if1 .left)) (T c .keys-to .last .1 .1 .1 .0) (T c .keys-to .ensures) (c .first-place2 .ensures)
+    (g .keys-to-goal .last .1 .1 .1 .1 .0) (g .keys-to-goal .ensures) (e .before .first-place .ensures) (omega (arith, e .if1 .left)) (T c .keys-to .last .1 .1 .1 .0) (T c .keys-to .ensures)
+    (c .first-place2 .ensures)
 
 pub choose-pair-spec : {M : Type 1} → statement M
 choose-pair-spec =

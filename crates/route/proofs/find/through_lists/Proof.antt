@@ -51,7 +51,9 @@ lasts-are : (c : tie.After-choose-pair) → B c .before .before .before .portal-
 lasts-are c = B c .before .before .before .portal-moves2 .ensures
 
 foremost : (c : tie.After-choose-pair) → Foremost (runAt (hall (S (B c))) (S (B c) .args .source) (S (B c) .args .goal)) unlinked 400 (c .choose-pair .result)
-foremost c = subst (λ (runs : ℕ → ℕ). Foremost runs unlinked 400 (c .choose-pair .result)) (same-runs (sectorOf (S (B c) .args .source) * 20) (sectorOf (S (B c) .args .goal) * 20) (graph-is (linked (B c))) (legs-are c) (lasts-are c)) (c .choose-pair .ensures)
+foremost c =
+    subst (λ (runs : ℕ → ℕ). Foremost runs unlinked 400 (c .choose-pair .result))
+    (same-runs (sectorOf (S (B c) .args .source) * 20) (sectorOf (S (B c) .args .goal) * 20) (graph-is (linked (B c))) (legs-are c) (lasts-are c)) (c .choose-pair .ensures)
 
 chosen : (c : tie.After-choose-pair) → c .choose-pair .result < 400 → Chosen (hall (S (B c))) (S (B c) .args .source) (S (B c) .args .goal) (c .choose-pair .result)
 chosen c l = chosen-some (hall (S (B c))) (S (B c) .args .source) (S (B c) .args .goal) (fits-of (S (B c) .pre .0)) (foremost c) l
@@ -59,7 +61,8 @@ chosen c l = chosen-some (hall (S (B c))) (S (B c) .args .source) (S (B c) .args
 -- the route over it, with leg and last moves as they were read
 found-is : (c : tie.After-choose-pair) → c .choose-pair .result < 400 → let s = S (B c) in let k = c .choose-pair .result in
     throughPortals (hall s) (portalGraph (hall s)) (s .args .source) (s .args .goal)
-    ≡ pairRoute (hall s) (s .args .goal) (sectorOf (s .args .source) * 20 + k / 20) (sectorOf (s .args .goal) * 20 + k % 20) (getD (B c .before .before .before .before .before .before .portal-moves .last .1 .1 .1 .0) (k / 20) 0) (getD (B c .before .before .before .portal-moves2 .last .1 .1 .1 .0) (k % 20) 0)
+    ≡ pairRoute (hall s) (s .args .goal) (sectorOf (s .args .source) * 20 + k / 20) (sectorOf (s .args .goal) * 20 + k % 20)
+    (getD (B c .before .before .before .before .before .before .portal-moves .last .1 .1 .1 .0) (k / 20) 0) (getD (B c .before .before .before .portal-moves2 .last .1 .1 .1 .0) (k % 20) 0)
 found-is c l =
     let s = S (B c) in
     let k = c .choose-pair .result in
@@ -95,8 +98,16 @@ slice-aggregate-choose-pair-2 c = search needs
 
 choose-pair-requires : tie.Need-choose-pair-requires
 choose-pair-requires c κs =
-    let s = S (E c) in
-    ((searched-of (linked (E c)), omega (arith, s .pre .1), omega (arith, s .pre .2), E c .before .before .before .before .before .before .portal-moves .kept .1 .1 .1 .0, E c .before .before .before .portal-moves2 .kept .1 .1 .1 .0), searched-both-ways (linked (E c)))
+    let s = S (E c) in (
+      (
+        searched-of (linked (E c)),
+        omega (arith, s .pre .1),
+        omega (arith, s .pre .2),
+        E c .before .before .before .before .before .before .portal-moves .kept .1 .1 .1 .0,
+        E c .before .before .before .portal-moves2 .kept .1 .1 .1 .0,
+      ),
+      searched-both-ways (linked (E c)),
+    )
 
 same-length : tie.Need-same-length
 same-length c = search needs

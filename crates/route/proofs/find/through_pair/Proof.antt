@@ -46,10 +46,14 @@ key-low c = omega (arith, S c .pre .1 .linked, ap (λ (l : List ℕ). getD l (S 
 
 -- the path fits the list of portals
 few-portals : (l : tie.After-least-path) → (l .least-path .result ≤ length (l .least-path .last .1 .1 .1 .1 .1 .0)) × (length (l .least-path .last .1 .1 .1 .1 .1 .0) ≡ 2000)
-few-portals l = let s = S (K l) in (taken-few _ (fits s) (s .pre .1) _ _ _ (keys-are (K l)) (l .least-path .ensures .0) (l .least-path .ensures .1) (l .least-path .kept .1 .1 .1 .1 .1 .0), l .least-path .kept .1 .1 .1 .1 .1 .0)
+few-portals l = let s = S (K l) in (
+  taken-few _ (fits s) (s .pre .1) _ _ _ (keys-are (K l)) (l .least-path .ensures .0) (l .least-path .ensures .1) (l .least-path .kept .1 .1 .1 .1 .1 .0),
+  l .least-path .kept .1 .1 .1 .1 .1 .0,
+)
 
 keys-to-requires : tie.Need-keys-to-requires
-keys-to-requires c κs = let start = c .before .before .before .before .before in ((searched-of (start .pre .0), omega (arith, start .pre .1 .end, same-sectors start)), searched-both-ways (start .pre .0))
+keys-to-requires c κs = let start = c .before .before .before .before .before in
+    ((searched-of (start .pre .0), omega (arith, start .pre .1 .end, same-sectors start)), searched-both-ways (start .pre .0))
 
 slice-aggregate-least-path : tie.Need-slice-aggregate-least-path
 slice-aggregate-least-path c = search needs
@@ -79,8 +83,12 @@ write-steps-requires : tie.Need-write-steps-requires
 write-steps-requires c κs =
     let counted = c .before .before .before in
     let l = counted .before .before in
-    let s = S (K l) in
-    (s .pre .0 .opened, few-portals l .0, taken-path _ (fits s) (s .pre .1) _ _ _ (keys-are (K l)) (l .least-path .ensures .0) (l .least-path .ensures .1), omega (arith, counted .step-count .ensures, c .before .before .if1 .left))
+    let s = S (K l) in (
+      s .pre .0 .opened,
+      few-portals l .0,
+      taken-path _ (fits s) (s .pre .1) _ _ _ (keys-are (K l)) (l .least-path .ensures .0) (l .least-path .ensures .1),
+      omega (arith, counted .step-count .ensures, c .before .before .if1 .left),
+    )
 
 cast-t28 : tie.Need-cast-t28
 cast-t28 c = let counted = c .before .before .before .before .before .before in omega (arith, counted .step-count .ensures, few-portals (counted .before .before))
@@ -105,7 +113,8 @@ returns-2 c =
     let counted = c .before .before .before .before .before .before .before in
     let l = counted .before .before in
     let s = S (K l) in
-    pair-written _ (fits s) (s .pre .1) _ _ _ (keys-are (K l)) (l .least-path .ensures .0) (l .least-path .ensures .1) _ _ _ _ (counted .step-count .ensures) (c .before .before .before .before .before .before .if1 .left) (c .before .before .before .write-steps .ensures)
+    pair-written _ (fits s) (s .pre .1) _ _ _ (keys-are (K l)) (l .least-path .ensures .0) (l .least-path .ensures .1) _ _ _ _ (counted .step-count .ensures)
+    (c .before .before .before .before .before .before .if1 .left) (c .before .before .before .write-steps .ensures)
 
 pub through-pair-spec : {M : Type 1} → statement M
 through-pair-spec =

@@ -42,8 +42,13 @@ slice-aggregate-through-lists-2 c = simp length-take (omega (arith, low (c .befo
 
 through-lists-requires : tie.Need-through-lists-requires
 through-lists-requires c κs =
-    let start = c .before .before .before .before .before .before .before .before .before in
-    (start .pre .0, start .pre .1, start .pre .2, simp length-take (omega (arith, c .before .before .before .before .sectors .ensures, low (c .before .before .before .before))), simp length-take (omega (arith, c .before .before .before .sectors2 .ensures, c .before .before .before .before .sectors .ensures, low (c .before .before .before .before))))
+    let start = c .before .before .before .before .before .before .before .before .before in (
+      start .pre .0,
+      start .pre .1,
+      start .pre .2,
+      simp length-take (omega (arith, c .before .before .before .before .sectors .ensures, low (c .before .before .before .before))),
+      simp length-take (omega (arith, c .before .before .before .sectors2 .ensures, c .before .before .before .before .sectors .ensures, low (c .before .before .before .before))),
+    )
 
 same-length : tie.Need-same-length
 same-length c = search needs

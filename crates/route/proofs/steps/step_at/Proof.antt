@@ -18,7 +18,8 @@ use Rattle.route.proofs.steps.step_at.Statement.{statement}
 use Rattle.route.proofs.steps.step_at.Tie as tie
 
 -- a step from its parts, over plain values
-step-is : (h : Hall) (p : ℕ) {m : Measures} {sector : SectorID} {goal : ℕ} {w : PortalWindow} → h .measures ≡ m → sector ≡ sectorAt m (portalSector p) → goal ≡ midpoint h p → w ≡ windowOf h p → windowStep sector goal w ≡ stepAt h p
+step-is : (h : Hall) (p : ℕ) {m : Measures} {sector : SectorID} {goal : ℕ} {w : PortalWindow} → h .measures ≡ m → sector ≡ sectorAt m (portalSector p) → goal ≡ midpoint h p → w ≡ windowOf h p
+    → windowStep sector goal w ≡ stepAt h p
 unfolding stepAt
 step-is h p e s g w = rw (s, ← e, g, w)
 
@@ -43,7 +44,8 @@ returns c =
     let mid = window .before in
     let sector = mid .before in
     let start = sector .before .before in
-    step-is (decode (now (start .args .st))) (start .args .p) (measures-are (start .pre .0)) (sector .sector-at .ensures) (c .byte .ensures ∙ mid .midpoint .ensures .0) (window .window-of-portal .ensures)
+    step-is (decode (now (start .args .st))) (start .args .p) (measures-are (start .pre .0)) (sector .sector-at .ensures) (c .byte .ensures ∙ mid .midpoint .ensures .0)
+    (window .window-of-portal .ensures)
 
 pub step-at-spec : {M : Type 1} → statement M
 step-at-spec =

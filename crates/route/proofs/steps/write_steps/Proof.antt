@@ -91,7 +91,8 @@ loop-again : tie.Need-loop-again Inv-loop μ-loop
 loop-again c =
     let put = c .before .before in
     let at = put .before .before .before .before .before in
-    stepped-turn (at .loop .inv) (S at .pre .3) (omega arith) (put .before .step-at .ensures ∙ ap (stepAt (decode (now (S at .args .st)))) (sym (in-path at (2 * at .loop .i) (omega arith)))) (put .put-step .ensures)
+    stepped-turn (at .loop .inv) (S at .pre .3) (omega arith) (put .before .step-at .ensures ∙ ap (stepAt (decode (now (S at .args .st)))) (sym (in-path at (2 * at .loop .i) (omega arith))))
+    (put .put-step .ensures)
 
 mul-at-2 : tie.Need-mul-at-2 Inv-loop μ-loop
 mul-at-2 c = search needs
@@ -130,7 +131,8 @@ returns c =
     let last = c .before .before in
     let at = last .before .before .before .before in
     let n = S at .args .n in
-    let sector = ap₂ (λ (m : Measures) (p : ℕ). lastStep (sectorAt m (portalSector p)) (placeOf (S at .args .goal))) (sym (measures-are (S at .pre .0))) (sym (in-path at (n - 1) (omega (arith, some at)))) in
+    let sector =
+    ap₂ (λ (m : Measures) (p : ℕ). lastStep (sectorAt m (portalSector p)) (placeOf (S at .args .goal))) (sym (measures-are (S at .pre .0))) (sym (in-path at (n - 1) (omega (arith, some at)))) in
     stepped-end (at .loop .inv) (S at .pre .3) (S at .args .goal) n (some at) (long at) refl (omega arith) sector (last .write-last .ensures)
 
 pub write-steps-spec : {M : Type 1} → statement M

@@ -26,8 +26,16 @@ slice-aggregate-search-ends-2 c = search needs
 
 search-ends-requires : tie.Need-search-ends-requires
 search-ends-requires c κs =
-    let given = S (c .before .before) .pre in
-    ((searched-in (given .0 .0) (given .0 .0 .graph .numbers) (simp length-take (omega (arith, low (c .before .before), given .0 .0 .graph .numbers))), simp length-take (omega (arith, low (c .before .before), given .0 .0 .graph .numbers)), given .0 .1, given .0 .2, omega arith), given .1)
+    let given = S (c .before .before) .pre in (
+      (
+        searched-in (given .0 .0) (given .0 .0 .graph .numbers) (simp length-take (omega (arith, low (c .before .before), given .0 .0 .graph .numbers))),
+        simp length-take (omega (arith, low (c .before .before), given .0 .0 .graph .numbers)),
+        given .0 .1,
+        given .0 .2,
+        omega arith,
+      ),
+      given .1,
+    )
 
 same-length : tie.Need-same-length
 same-length c = search needs

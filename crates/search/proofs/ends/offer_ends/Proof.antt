@@ -56,7 +56,8 @@ loop-again c =
       omega (arith, in-loop .loop-test .taken),
       call .kept .1 .1 .0 ∙ inv .1,
       call .kept .1 .1 .1 .0 ∙ inv .2,
-      λ g sound numbers b. starts-more g 20 (endAt (S at .args .q)) (endCost (now (S at .args .lasts))) sound (λ j l. omega (arith, given .0)) (at .loop .keys) (at .loop .wait) (inv .1 ∙ numbers) (inv .2 ∙ given .2 ∙ numbers) (at .loop .k) (in-loop .loop-test .taken) (call .ensures) (inv .3 g sound numbers b),
+      λ g sound numbers b. starts-more g 20 (endAt (S at .args .q)) (endCost (now (S at .args .lasts))) sound (λ j l. omega (arith, given .0)) (at .loop .keys) (at .loop .wait) (inv .1
+          ∙ numbers) (inv .2 ∙ given .2 ∙ numbers) (at .loop .k) (in-loop .loop-test .taken) (call .ensures) (inv .3 g sound numbers b),
     )
 
 same-length : tie.Need-same-length Inv-loop μ-loop
@@ -68,7 +69,11 @@ same-length-2 c = c .before .loop .inv .2
 returns : tie.Need-returns Inv-loop μ-loop
 returns c =
     let at = c .before in
-    λ g sound numbers b. subst (λ (k : ℕ). EndsBegun g (S at .args .q) (now (S at .args .lasts)) k (at .loop .keys) (at .loop .wait)) (omega (arith, at .loop .inv .0, c .loop-test .left)) (at .loop .inv .3 g sound numbers b)
+    λ g sound numbers b. subst (λ (k : ℕ). EndsBegun g (S at .args .q) (now (S at .args .lasts)) k (at .loop .keys) (at .loop .wait)) (omega (
+      arith,
+      at .loop .inv .0,
+      c .loop-test .left,
+    )) (at .loop .inv .3 g sound numbers b)
 
 pub offer-ends-spec : {M : Type 1} → statement M
 offer-ends-spec =

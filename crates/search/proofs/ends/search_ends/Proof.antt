@@ -88,9 +88,13 @@ returns c =
     let to = endAt q in
     let cost = endCost lasts in
     let begun = starts-none g 20 to cost sound (λ j l. omega (arith, given .2)) unlinked (omega arith) (given .0 .graph .numbers) (given .1) (k .fill-keys .ensures) (w .fill-wait .ensures) in
-    let waiting = starts-all g 20 to cost sound (λ j l. omega (arith, given .2)) (o .offer-ends .last .1 .1 .0) (o .offer-ends .last .1 .1 .1 .0) (o .offer-ends .ensures g sound (k .fill-keys .kept .0 ∙ given .0 .graph .numbers) begun) in
+    let waiting =
+    starts-all g 20 to cost sound (λ j l. omega (arith, given .2)) (o .offer-ends .last .1 .1 .0) (o .offer-ends .last .1 .1 .1 .0)
+    (o .offer-ends .ensures g sound (k .fill-keys .kept .0 ∙ given .0 .graph .numbers) begun) in
     let kept = call .settle .ensures .0 (endsGraph g q lasts) (0 ∷ []) (starts-extends g 20 to cost sound (λ j l. omega (arith, given .2))) (g .nodes) unlinked waiting in
-    let settled = starts-over g 20 to cost sound (λ j l. omega (arith, given .2)) keys (call .settle .last .1 .1 .1 .0) (call .settle .kept .1 .1 .1 .0 ∙ wait-long o) kept (λ v l. call .settle .ensures .1 v (omega (arith, keys-long o))) in
+    let settled =
+    starts-over g 20 to cost sound (λ j l. omega (arith, given .2)) keys (call .settle .last .1 .1 .1 .0)
+    (call .settle .kept .1 .1 .1 .0 ∙ wait-long o) kept (λ v l. call .settle .ensures .1 v (omega (arith, keys-long o))) in
     ends-nearest q lasts keys sound (start .pre .1) (omega (arith, given .0 .few)) (given .0 .graph .light) (given .2) (call .settle .kept .1 .1 .0 ∙ keys-long o) settled
 
 pub search-ends-spec : {M : Type 1} → statement M

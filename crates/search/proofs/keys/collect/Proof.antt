@@ -19,7 +19,8 @@ abbrev μ-loop : tie.MeasureT-loop
 fits : (c : tie.In-loop Inv-loop μ-loop) → c .before .loop .t < length (c .before .loop .queue)
 fits c = let at = c .before in omega (arith, at .loop .inv .1, at .loop .inv .2 .few, c .loop-test .taken, at .before .pre .2)
 
-next : (c : tie.Joined1 Inv-loop μ-loop) → let at = c .before .before .before in (length (c .if1 .queue) ≡ length (at .before .args .queue .now)) × Lined (at .loop .u + 1) (at .before .args .wait .now) (c .if1 .queue) (c .if1 .t)
+next : (c : tie.Joined1 Inv-loop μ-loop) → let at = c .before .before .before in
+    (length (c .if1 .queue) ≡ length (at .before .args .queue .now)) × Lined (at .loop .u + 1) (at .before .args .wait .now) (c .if1 .queue) (c .if1 .t)
 next c =
     let at = c .before .before .before .loop in
     ⊎-elim (λ w. rw (w .1, w .2) (length-set (at .queue) (at .t) (at .u) ∙ at .inv .1, lined-take (at .inv .2) (omega (arith, w .0 .taken)) (fits (c .before .before))))

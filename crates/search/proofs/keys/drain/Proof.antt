@@ -32,7 +32,8 @@ module _ {g : Graph} {d₀ p₀ q₀ d p q : List ℕ} {t₀ t h u : ℕ} (now :
       let waits : 0 < getD p u 0 = rw (first, w .3) (lined .waits some) in
       rw (← w .2, ← w .3) (turn .fallen (omega (arith, lined .low some, now .long-d)) waits)
 
-  draining-more : {e f r : List ℕ} {s : ℕ} → length e ≡ length d → length f ≡ length p → length r ≡ length q → s ≤ length q → Keeps g d p e f → Turned (length d) u d p e f → Draining g d₀ p₀ q₀ t₀ e f r s (h + 1)
+  draining-more : {e f r : List ℕ} {s : ℕ} → length e ≡ length d → length f ≡ length p → length r ≡ length q → s ≤ length q → Keeps g d p e f → Turned (length d) u d p e f
+      → Draining g d₀ p₀ q₀ t₀ e f r s (h + 1)
   draining-more le lf lr l k turn =
       record {
         long-d = le ∙ now .long-d;
@@ -81,7 +82,8 @@ loop-again : tie.Need-loop-again Inv-loop μ-loop
 loop-again c =
     let call = c .before .before .before .before .before .before .serve in
     let at = At c in
-    draining-more (at .loop .inv) (S at .pre .2) (S at .pre .3) refl (call .kept .1 .1 .1 .0) (call .kept .1 .1 .1 .1 .0) (call .kept .1 .1 .1 .1 .1 .0) (call .ensures .0) (call .ensures .1 .0) (call .ensures .1 .1)
+    draining-more (at .loop .inv) (S at .pre .2) (S at .pre .3) refl (call .kept .1 .1 .1 .0) (call .kept .1 .1 .1 .1 .0) (call .kept .1 .1 .1 .1 .1 .0) (call .ensures .0) (call .ensures .1 .0)
+    (call .ensures .1 .1)
 
 same-length : tie.Need-same-length Inv-loop μ-loop
 same-length c = c .before .loop .inv .long-d

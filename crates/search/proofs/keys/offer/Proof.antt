@@ -20,9 +20,12 @@ pos : (n : tie.After-head-of) → 0 < getD (now (S n .args .table)) (S n .args .
 pos n = omega (arith, n .before .if1 .left)
 
 in-v : (n : tie.After-head-of) → n .head-of .result < sectors (S n .args .m) * 20
-in-v n = arrives (S n .args .m) (now (S n .args .table)) (now (S n .args .keys)) (now (S n .args .wait)) (S n .args .a) (S n .args .u) (S n .pre .2) (n .head-of .result) (n .head-of .ensures) (S n .pre .0 .graph .sound) (S n .pre .1) (pos n)
+in-v n =
+    arrives (S n .args .m) (now (S n .args .table)) (now (S n .args .keys)) (now (S n .args .wait)) (S n .args .a) (S n .args .u) (S n .pre .2) (n .head-of .result) (n .head-of .ensures)
+    (S n .pre .0 .graph .sound) (S n .pre .1) (pos n)
 
-less : (c : tie.After-slice-known6) → getD (now (S (N c) .args .keys)) (S (N c) .args .u) 0 + getD (now (S (N c) .args .table)) (S (N c) .args .a) 0 < getD (now (S (N c) .args .keys)) (N c .head-of .result) 0
+less : (c : tie.After-slice-known6) → getD (now (S (N c) .args .keys)) (S (N c) .args .u) 0 + getD (now (S (N c) .args .table)) (S (N c) .args .a) 0 < getD (now (S (N c) .args .keys))
+    (N c .head-of .result) 0
 less c = omega arith
 
 mul-w : tie.Need-mul-w
@@ -46,7 +49,11 @@ slice-read-old : tie.Need-slice-read-old
 slice-read-old c = omega (arith, in-v (c .before), S (c .before) .pre .0 .graph .numbers)
 
 returns-2 : tie.Need-returns-2
-returns-2 c = let n = c .before .before in (S n .pre .3, declines (S n .args .m) (now (S n .args .table)) (now (S n .args .keys)) (now (S n .args .wait)) (S n .args .a) (S n .args .u) (S n .pre .2) (n .head-of .result) (n .head-of .ensures) (omega arith))
+returns-2 c = let n = c .before .before in (
+  S n .pre .3,
+  declines (S n .args .m) (now (S n .args .table)) (now (S n .args .keys)) (now (S n .args .wait)) (S n .args .a) (S n .args .u) (S n .pre .2)
+      (n .head-of .result) (n .head-of .ensures) (omega arith),
+)
 
 mul-key : tie.Need-mul-key
 mul-key c = search needs
@@ -58,7 +65,11 @@ sub-if3 : tie.Need-sub-if3
 sub-if3 c = search needs
 
 returns-3 : tie.Need-returns-3
-returns-3 c = let n = c .before .before .before .before in (S n .pre .3, declines (S n .args .m) (now (S n .args .table)) (now (S n .args .keys)) (now (S n .args .wait)) (S n .args .a) (S n .args .u) (S n .pre .2) (n .head-of .result) (n .head-of .ensures) (omega arith))
+returns-3 c = let n = c .before .before .before .before in (
+  S n .pre .3,
+  declines (S n .args .m) (now (S n .args .table)) (now (S n .args .keys)) (now (S n .args .wait)) (S n .args .a) (S n .args .u) (S n .pre .2) (n .head-of .result) (n .head-of .ensures)
+      (omega arith),
+)
 
 slice-read-waited : tie.Need-slice-read-waited
 slice-read-waited c = omega (arith, in-v (N c), S (N c) .pre .0 .graph .room)
@@ -82,7 +93,11 @@ same-length-2 : tie.Need-same-length-2
 same-length-2 c = search needs
 
 returns-4 : tie.Need-returns-4
-returns-4 c = let n = N (c .before) in (S n .pre .3, accepts (S n .args .m) (now (S n .args .table)) (now (S n .args .keys)) (now (S n .args .wait)) (S n .args .a) (S n .args .u) (S n .pre .2) (n .head-of .result) (n .head-of .ensures) (pos n) (less (c .before)))
+returns-4 c = let n = N (c .before) in (
+  S n .pre .3,
+  accepts (S n .args .m) (now (S n .args .table)) (now (S n .args .keys)) (now (S n .args .wait)) (S n .args .a) (S n .args .u) (S n .pre .2)
+      (n .head-of .result) (n .head-of .ensures) (pos n) (less (c .before)),
+)
 
 push-requires : tie.Need-push-requires
 push-requires c κs = let n = N (c .before .before) in (S n .pre .3, omega (arith, in-v n, S n .pre .0 .few))
@@ -100,8 +115,11 @@ returns-5 : tie.Need-returns-5
 returns-5 c =
     let call = c .before .before in
     let at = call .before .before .before in
-    let n = N at in
-    (call .push .ensures, accepts (S n .args .m) (now (S n .args .table)) (now (S n .args .keys)) (now (S n .args .wait)) (S n .args .a) (S n .args .u) (S n .pre .2) (n .head-of .result) (n .head-of .ensures) (pos n) (less at))
+    let n = N at in (
+      call .push .ensures,
+      accepts (S n .args .m) (now (S n .args .table)) (now (S n .args .keys)) (now (S n .args .wait)) (S n .args .a) (S n .args .u) (S n .pre .2) (n .head-of .result)
+          (n .head-of .ensures) (pos n) (less at),
+    )
 
 pub offer-spec : {M : Type 1} → statement M
 offer-spec =

@@ -72,13 +72,15 @@ loop-again c =
     let u = start .args .u in (
       omega (arith, c .before .before .before .loop-test .taken),
       omega (arith, at .loop .inv .1, c .gain .ensures .0),
-      λ z. below-more (λ (i : ℕ). 0 < getD table (u * 20 + i) 0 → getD keys (u / 20 * 20 + i) 0 ≤ getD keys u 0 + getD table (u * 20 + i) 0) (at .loop .c) (at .loop .inv .2 (omega arith)) (c .gain .ensures .1 (omega arith)),
+      λ z. below-more (λ (i : ℕ). 0 < getD table (u * 20 + i) 0 → getD keys (u / 20 * 20 + i) 0 ≤ getD keys u 0 + getD table (u * 20 + i) 0) (at .loop .c) (at .loop .inv .2 (omega arith))
+          (c .gain .ensures .1 (omega arith)),
     )
 
 returns : tie.Need-returns Inv-loop μ-loop
 returns c e =
     let at = c .before in
-    subst (Offerless (S (at .before) .args .table .now) (S (at .before) .args .keys .now) (S (at .before) .args .u)) (omega (arith, at .loop .inv .0, c .loop-test .left)) (at .loop .inv .2 (omega (arith, ltb-false 0 (at .loop .n) e)))
+    subst (Offerless (S (at .before) .args .table .now) (S (at .before) .args .keys .now) (S (at .before) .args .u)) (omega (arith, at .loop .inv .0, c .loop-test .left))
+    (at .loop .inv .2 (omega (arith, ltb-false 0 (at .loop .n) e)))
 
 pub offers-inside-spec : {M : Type 1} → statement M
 offers-inside-spec =

@@ -60,8 +60,10 @@ returns-3 c =
     let took = Call c .take-turn .ensures in (
       took .room,
       (
-        λ g o ext s top w. took .served .done g o ext s top (turn-begins ext (start .pre .0 .graph .sound) o (low (Asked c)) (arcs-of (start .args .m) (now (start .args .table)) u) (now (start .args .keys)) (now (start .args .wait)) (start .pre .0 .graph .room) w),
-        turned-less (lt-of-le-of-lt (took .served .light) (work-served (now (start .args .keys)) (now (start .args .wait)) u (omega (arith, start .pre .0 .graph .room, low (Asked c))) (omega (arith, Asked c .if2 .left)))),
+        λ g o ext s top w. took .served .done g o ext s top (turn-begins ext (start .pre .0 .graph .sound) o (low (Asked c)) (arcs-of (start .args .m) (now (start .args .table)) u)
+            (now (start .args .keys)) (now (start .args .wait)) (start .pre .0 .graph .room) w),
+        turned-less (lt-of-le-of-lt (took .served .light) (work-served (now (start .args .keys)) (now (start .args .wait)) u (omega (arith, start .pre .0 .graph .room, low (Asked c)))
+            (omega (arith, Asked c .if2 .left)))),
       ),
     )
 

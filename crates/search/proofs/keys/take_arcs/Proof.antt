@@ -87,7 +87,10 @@ returns c =
     let arcs = arcs-of (start .args .m) (now (start .args .table)) (start .args .u) in
     record {
       served = record {
-        done = λ g o ext s top w. turn-ends ext (start .pre .searched .graph .sound) o (start .pre .low) arcs (at .loop .keys) (at .loop .wait) (omega (arith, c .loop-test .left)) (at .loop .inv .6 g o ext s top w);
+        done = λ g o ext s top w. turn-ends ext (start .pre .searched .graph .sound) o (start .pre .low) arcs (at .loop .keys) (at .loop .wait) (omega (
+          arith,
+          c .loop-test .left,
+        )) (at .loop .inv .6 g o ext s top w);
         light = at .loop .inv .7;
       };
       room = at .loop .inv .5;

@@ -48,7 +48,9 @@ returns-2 c =
     let start = asked .before .before .before .before .before .before .before in
     let took = call .offer .ensures .1 in
     record {
-      served = rw (took .0, took .1) (served-own (now (start .args .keys)) (now (start .args .wait)) (start .args .u) (start .pre .searched) (start .pre .low) (asked .before .offers-inside .ensures (asked .if1 .left)));
+      served =
+          rw (took .0, took .1) (served-own (now (start .args .keys)) (now (start .args .wait)) (start .args .u) (start .pre .searched) (start .pre .low)
+          (asked .before .offers-inside .ensures (asked .if1 .left)));
       room = call .offer .ensures .0;
     }
 

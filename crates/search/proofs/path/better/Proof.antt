@@ -25,7 +25,8 @@ node-rank-requires-2 c κs =
     (start .pre .0, ⊎-elim (λ e. absurd (c .before .if1 .left (omega (arith, e, c .before .before .sectors .ensures)))) (λ e. e) (start .pre .2))
 
 returns-2 : tie.Need-returns-2
-returns-2 c = λ table. better-some _ table _ _ _ (λ e. c .before .before .if1 .left (omega (arith, e, c .before .before .before .sectors .ensures))) (c .before .node-rank .ensures) (c .node-rank2 .ensures)
+returns-2 c =
+    λ table. better-some _ table _ _ _ (λ e. c .before .before .if1 .left (omega (arith, e, c .before .before .before .sectors .ensures))) (c .before .node-rank .ensures) (c .node-rank2 .ensures)
 
 pub better-spec : {M : Type 1} → statement M
 better-spec =

@@ -59,7 +59,8 @@ loop-again c = (omega arith, omega arith, next-suc _ _ _ _ _ _ _ (c .before .bef
 returns : tie.Need-returns Inv-loop μ-loop
 returns c =
     let start = S (c .before .before) in
-    c .before .loop .inv .2 ∙ next-ends (start .args .m) (now (start .args .table)) (nodeRank (decode (now (start .args .st)))) (now (start .args .keys)) (start .args .u) (c .before .loop .a) (omega arith) (omega (arith, start .pre .1))
+    c .before .loop .inv .2 ∙ next-ends (start .args .m) (now (start .args .table)) (nodeRank (decode (now (start .args .st)))) (now (start .args .keys)) (start .args .u) (c .before .loop .a)
+    (omega arith) (omega (arith, start .pre .1))
 
 pub next-portal-spec : {M : Type 1} → statement M
 next-portal-spec =

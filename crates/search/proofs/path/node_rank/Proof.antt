@@ -50,14 +50,24 @@ side-number-requires : tie.Need-side-number-requires
 side-number-requires c κs = search needs
 
 add-result-3 : tie.Need-add-result-3
-add-result-3 c = let at = c .before in omega (arith, sector at, at .before .border-rank .ensures .1, at .border-rank2 .ensures .1, c .side-number .ensures, side-low (at .before .before .before .portal-side .result))
+add-result-3 c = let at = c .before in omega (
+  arith,
+  sector at,
+  at .before .border-rank .ensures .1,
+  at .border-rank2 .ensures .1,
+  c .side-number .ensures,
+  side-low (at .before .before .before .portal-side .result),
+)
 
 returns : tie.Need-returns
 returns c =
     let at = c .before .before .before in
     let start = S at in
     let side = at .before .portal-side in
-    let parts = rank-is (now (start .args .st)) (start .args .p) (side .ensures) (c .before .before .border-rank .ensures .0 ∙ ap (λ (i : ℕ). cellRank (borderCell (side .result) i)) (at .portal-run .ensures .begins)) (c .before .border-rank2 .ensures .0 ∙ ap (λ (i : ℕ). cellRank (borderCell (side .result) i)) (at .portal-run .ensures .ends)) in
+    let parts =
+    rank-is (now (start .args .st)) (start .args .p) (side .ensures)
+    (c .before .before .border-rank .ensures .0 ∙ ap (λ (i : ℕ). cellRank (borderCell (side .result) i)) (at .portal-run .ensures .begins))
+    (c .before .border-rank2 .ensures .0 ∙ ap (λ (i : ℕ). cellRank (borderCell (side .result) i)) (at .portal-run .ensures .ends)) in
     ap (λ (k : ℕ). ((start .args .p / 20 * 100 + c .before .before .border-rank .result) * 100 + c .before .border-rank2 .result) * 4 + k) (c .side-number .ensures) ∙ parts
 
 pub node-rank-spec : {M : Type 1} → statement M

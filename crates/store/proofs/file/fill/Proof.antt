@@ -32,7 +32,8 @@ loop-again : tie.Need-loop-again Inv-loop μ-loop
 loop-again c = (
   omega arith,
   simp length-set (omega arith),
-  ap (λ (l : List ℕ). set l (c .before .loop .i) (c .before .before .args .v)) (c .before .loop .inv .2) ∙ fill-more (c .before .loop .i) (c .before .before .args .v) (c .before .before .args .list .now) (omega arith),
+  ap (λ (l : List ℕ). set l (c .before .loop .i) (c .before .before .args .v)) (c .before .loop .inv .2)
+      ∙ fill-more (c .before .loop .i) (c .before .before .args .v) (c .before .before .args .list .now) (omega arith),
 )
 
 same-length : tie.Need-same-length Inv-loop μ-loop

@@ -49,7 +49,8 @@ returns c =
     let costs = marks .before .before .before .before in
     let base = costs .before .before .before .before in
     let opening = base .before .before .before .before in
-    written-by _ _ _ _ _ (opening .before .before .before .before .before .before .pre .0) (opening .put-measures .ensures) (base .put-part .ensures) (costs .put-part2 .ensures) (marks .put-marks .ensures)
+    written-by _ _ _ _ _ (opening .before .before .before .before .before .before .pre .0) (opening .put-measures .ensures) (base .put-part .ensures) (costs .put-part2 .ensures)
+    (marks .put-marks .ensures)
 
 pub write-hall-spec : {M : Type 1} → statement M
 write-hall-spec =
