@@ -8,6 +8,7 @@ use crate::check::check_store;
 use fields::sectors::cells;
 use model::Routed;
 use route::find::find_path;
+use route::steps::steps_of;
 use store::reading::measures_at;
 
 // Finds the route from one cell to another, its steps six bytes each: column, row, goal, side, first and last cell. A refusal and "none" leave the list as it was.
@@ -27,5 +28,9 @@ pub fn route(st: &[u8], source: usize, goal: usize, list: &mut [u8]) -> Routed
     if size <= goal {
         return Routed::Refused(24);
     }
-    find_path(st, m, source, goal, list)
+    let found = find_path(st, m, source, goal, list);
+    if list.len() / 6 < steps_of(found) {
+        return Routed::Refused(25);
+    }
+    found
 }

@@ -4,13 +4,14 @@ ghost use mathlib.Core.List.{_++_};
 ghost use Prim.Native.Nat.{_*_, _≤_, min};
 ghost use lib.ListN.{length, drop};
 ghost use Rattle.model.specs.FlatSteps.{stepsIn};
-ghost use Rattle.model.specs.Calls.{routedSteps, routeAnswer, routeSteps};
+ghost use Rattle.model.specs.Calls.{routeAnswer, routeSteps};
 ghost use Rattle.model.specs.Answers.{RouteAnswers};
 ghost use Rattle.records.specs.Routing.{Flatly};
 use fields::steps::step_in;
 use hall::routing::route;
 use model::RouteStep;
 use model::Routed;
+use route::steps::steps_of;
 
 // The first n steps of a flat list go to the first n records; the others stay.
 fn write_records(flat: &[u8], n: usize, list: &mut [RouteStep])
@@ -29,17 +30,6 @@ fn steps_room(records: usize) -> usize
     ensures { λ r. ⌜ r ≡ min records 1001 ⌝ }
 {
     if records < 1001 { records } else { 1001 }
-}
-
-// How many steps an answer has.
-fn steps_of(answer: Routed) -> usize
-    ensures { λ r. ⌜ r ≡ routedSteps answer ⌝ }
-{
-    match answer {
-        Routed::Route { steps, leg, run } => steps as usize,
-        Routed::NoRoute => 0,
-        Routed::Refused(n) => 0,
-    }
 }
 
 // The route call for so many records, its steps in front of a flat list.

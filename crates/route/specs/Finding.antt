@@ -10,7 +10,6 @@ use lib.ListN.{length, getD, take, drop, length-append, length-drop}
 use lib.Seq.{take-at}
 use borrow.Author.Tests.{lt-ltb, le-ltb}
 use Rattle.laws.specs.Fold.{pick}
-use Rattle.laws.specs.Ladder.{refuse}
 use Rattle.model.specs.declared.Measures.{Measures}
 use Rattle.model.specs.declared.RouteStep.{RouteStep}
 use Rattle.model.specs.declared.Routed.{Routed}
@@ -24,24 +23,22 @@ use Rattle.model.specs.Portals.{sectorPortals, portalCount, placePortal, keySte
 use Rattle.model.specs.LeastPath.{unlinked, keysTo, costOfKey, leastPath}
 use Rattle.model.specs.PortalCrossings.{Fits}
 use Rattle.model.specs.Route.{Found, none, route, endOf, runOf, stepsOf, chosenPair, throughPair, throughPortals, oneStep, routeOf}
-use Rattle.model.specs.Calls.{ifAccepted, stepList, routed}
+use Rattle.model.specs.Calls.{stepList, routed}
 use Rattle.graph.specs.Near.{leg-moves, last-moves, near-portal}
 use Rattle.route.specs.Choosing.{Chosen, legAt, lastAt}
 use Rattle.route.specs.PortalPaths.{PortalPath, least-portal-path}
 use Rattle.model.specs.FewSteps.{length-steps}
 use Rattle.route.specs.Stepping.{length-flat}
 
--- 25 where the list holds fewer steps
-abbrev pub roomNumber : ℕ → Found → ℕ
-roomNumber room found = refuse (ltb room (length (stepList found))) 25 0
+-- what was found, as an answer that refuses nothing
+unfoldable pub foundAnswer : Found → Routed
+foundAnswer found = routed 0 found
 
-unfoldable pub foundAnswer : ℕ → Found → Routed
-foundAnswer room found = routed (roomNumber room found) found
-
+-- and its steps in the list, where that has room for all of them
 unfoldable pub foundInto : Found → List ℕ → List ℕ
 foundInto found list =
     let bytes = flatSteps (stepList found) in
-    ifAccepted (roomNumber (length list / 6) found) (bytes ++ drop (length bytes) list) list
+    pick (ltb (length list / 6) (length (stepList found))) list (bytes ++ drop (length bytes) list)
 
 -- the route of one step
 abbrev pub lastRoute : Measures → ℕ → ℕ → Found
@@ -49,27 +46,27 @@ lastRoute m goal moves = route (lastStep (sectorAt m (sectorOf goal)) (placeOf g
 
 -- ---- a route, with and without room
 module _ (steps : List RouteStep) (leg run : ℕ) (list : List ℕ) where
-  pub no-room : {n : ℕ} → length steps ≡ n → length list / 6 < n → (routed-as.Refused 25 ≡ foundAnswer (length list / 6) (route steps leg run)) × (list ≡ foundInto (route steps leg run) list)
-  unfolding foundAnswer foundInto stepList refuse routed ifAccepted
-  no-room e l = let t : ltb (length list / 6) (length steps) ≡ true = rw e (lt-ltb (length list / 6) _ l) in rw t (refl, refl)
+  pub no-room : {n : ℕ} → length steps ≡ n → length list / 6 < n → (routed-as.Route n leg run ≡ foundAnswer (route steps leg run)) × (list ≡ foundInto (route steps leg run) list)
+  unfolding foundAnswer foundInto stepList routed
+  no-room e l = let t : ltb (length list / 6) (length steps) ≡ true = rw e (lt-ltb (length list / 6) _ l) in rw (t, e) (refl, refl)
 
   pub written-steps : {n : ℕ} {new : List ℕ} → length steps ≡ n → n ≤ length list / 6 → new ≡ flatSteps steps ++ drop (6 * n) list
-      → (routed-as.Route n leg run ≡ foundAnswer (length list / 6) (route steps leg run)) × (new ≡ foundInto (route steps leg run) list)
-  unfolding foundAnswer foundInto stepList refuse routed ifAccepted
+      → (routed-as.Route n leg run ≡ foundAnswer (route steps leg run)) × (new ≡ foundInto (route steps leg run) list)
+  unfolding foundAnswer foundInto stepList routed
   written-steps {n} {new} e l came =
       let t : ltb (length list / 6) (length steps) ≡ false = rw e (le-ltb (length list / 6) n l) in
       let bytes : length (flatSteps steps) ≡ 6 * n = length-flat steps ∙ ap (λ (k : ℕ). 6 * k) e in
       rw (t, bytes, e) (refl, came)
 
 -- ---- none
-none-is : (room : ℕ) (list : List ℕ) {found : Found} → found ≡ none → (routed-as.NoRoute ≡ foundAnswer room found) × (list ≡ foundInto found list)
-unfolding foundAnswer foundInto stepList refuse routed ifAccepted flatSteps
-none-is room list e = rw (e, le-ltb room 0 (omega arith), le-ltb (length list / 6) 0 (omega arith)) (refl, refl)
+none-is : (list : List ℕ) {found : Found} → found ≡ none → (routed-as.NoRoute ≡ foundAnswer found) × (list ≡ foundInto found list)
+unfolding foundAnswer foundInto stepList routed flatSteps
+none-is list e = rw (e, le-ltb (length list / 6) 0 (omega arith)) (refl, refl)
 
-pub none-found : (h : Hall) (source goal room : ℕ) (list : List ℕ) → chosenPair h (portalGraph h) source goal ≡ Option.none
-    → (routed-as.NoRoute ≡ foundAnswer room (throughPortals h (portalGraph h) source goal)) × (list ≡ foundInto (throughPortals h (portalGraph h) source goal) list)
+pub none-found : (h : Hall) (source goal : ℕ) (list : List ℕ) → chosenPair h (portalGraph h) source goal ≡ Option.none
+    → (routed-as.NoRoute ≡ foundAnswer (throughPortals h (portalGraph h) source goal)) × (list ≡ foundInto (throughPortals h (portalGraph h) source goal) list)
 unfolding throughPortals throughPair
-none-found h source goal room list e = none-is room list (ap (throughPair h (portalGraph h) source goal) e)
+none-found h source goal list e = none-is list (ap (throughPair h (portalGraph h) source goal) e)
 
 -- ---- a pair
 module _ (h : Hall) where
@@ -115,11 +112,14 @@ module _ (h : Hall) where
 
     -- the answer and the list, with and without room
     module _ (goal leg last : ℕ) (list : List ℕ) {steps : ℕ} (count : steps ≡ n / 2 + 1) where
-      pub pair-no-room : length list / 6 < steps → (routed-as.Refused 25 ≡ foundAnswer (length list / 6) (pairRoute goal p e leg last)) × (list ≡ foundInto (pairRoute goal p e leg last) list)
-      pair-no-room l = no-room (stepsOf h goal true (pairPath p e)) leg (costOfKey (getD (keysTo (portalGraph h) e) p 0) + last) list (taken-steps goal ∙ sym count) l
+      pub pair-no-room : length list / 6 < steps
+          → (routed-as.Route steps leg (getD keys p 0 / keyStep + last) ≡ foundAnswer (pairRoute goal p e leg last)) × (list ≡ foundInto (pairRoute goal p e leg last) list)
+      pair-no-room l =
+          let r = no-room (stepsOf h goal true (pairPath p e)) leg (costOfKey (getD (keysTo (portalGraph h) e) p 0) + last) list (taken-steps goal ∙ sym count) l in
+          (rw is (r .0), r .1)
 
       pub pair-written : {new : List ℕ} → steps ≤ length list / 6 → new ≡ flatSteps (stepsOf h goal true (take n nodes)) ++ drop (6 * (n / 2 + 1)) list
-          → (routed-as.Route steps leg (getD keys p 0 / keyStep + last) ≡ foundAnswer (length list / 6) (pairRoute goal p e leg last)) × (new ≡ foundInto (pairRoute goal p e leg last) list)
+          → (routed-as.Route steps leg (getD keys p 0 / keyStep + last) ≡ foundAnswer (pairRoute goal p e leg last)) × (new ≡ foundInto (pairRoute goal p e leg last) list)
       pair-written l came =
           let r = written-steps (stepsOf h goal true (pairPath p e)) leg (costOfKey (getD (keysTo (portalGraph h) e) p 0) + last) list (taken-steps goal ∙ sym count) l (came ∙ rw (taken, ← count)) in
           (rw is (r .0), r .1)

@@ -1,4 +1,4 @@
-// The search for a route: document 01, "A route". Where the list has no room for the steps, 25 is answered and the list stays as it was.
+// The search for a route: document 01, "A route". It answers what was found, and writes the steps where the list has room for all of them; the call refuses where it has not.
 ghost use mathlib.Core.Path.{_≡_};
 ghost use Prim.Native.Nat.{_*_, _/_, _≤_, _<_};
 ghost use lib.ListN.{length};
@@ -30,18 +30,19 @@ use search::path::least_path;
 // The route of one step, to a goal at these moves in the same sector.
 fn one_step(m: Measures, goal: usize, moves: u8, list: &mut [u8]) -> Routed
     requires { ⌜ (1 ≤ m .rows) × (sectors m ≤ 100) × (goal < cells m) ⌝ }
-    ensures answer { λ r. ⌜ r ≡ foundAnswer (length (now (list .entry)) / 6) (lastRoute m goal moves) ⌝ }
+    ensures answer { λ r. ⌜ r ≡ foundAnswer (lastRoute m goal moves) ⌝ }
     ensures steps { λ _. ⌜ now (list .exit) ≡ foundInto (lastRoute m goal moves) (now (list .entry)) ⌝ }
 {
-    if list.len() / 6 < 1 {
-        return Routed::Refused(25);
-    }
-    write_last(m, goal / SECTOR_CELLS, goal, list);
-    Routed::Route {
+    let found = Routed::Route {
         steps: 1,
         leg: 0,
         run: moves as u32,
+    };
+    if list.len() / 6 < 1 {
+        return found;
     }
+    write_last(m, goal / SECTOR_CELLS, goal, list);
+    found
 }
 
 // The route from portal p to portal e and from there to the goal, with its leg and its last moves.
@@ -58,22 +59,23 @@ fn through_pair(
     list: &mut [u8],
 ) -> Routed
     requires { ⌜ Linked m (now st) (now table) (length (now keys)) × Paired (decode (now st)) p e ⌝ }
-    ensures answer { λ r. ⌜ r ≡ foundAnswer (length (now (list .entry)) / 6) (pairRoute (decode (now (st .entry))) goal p e leg last) ⌝ }
+    ensures answer { λ r. ⌜ r ≡ foundAnswer (pairRoute (decode (now (st .entry))) goal p e leg last) ⌝ }
     ensures steps { λ _. ⌜ now (list .exit) ≡ foundInto (pairRoute (decode (now (st .entry))) goal p e leg last) (now (list .entry)) ⌝ }
 {
     keys_to(m, table, e, keys);
     let mut nodes: [u16; 2000] = [0; 2000];
     let n = least_path(st, m, table, keys, p, &mut nodes);
     let steps = step_count(n);
-    if list.len() / 6 < steps {
-        return Routed::Refused(25);
-    }
-    write_steps(st, m, &nodes, n, goal, list);
-    Routed::Route {
+    let found = Routed::Route {
         steps: steps as u32,
         leg: leg as u32,
         run: keys[p] / KEY_STEP + (last as u32),
+    };
+    if list.len() / 6 < steps {
+        return found;
     }
+    write_steps(st, m, &nodes, n, goal, list);
+    found
 }
 
 // The route over portals, in a lent table of weights and a lent list of keys.
@@ -87,7 +89,7 @@ fn through_lists(
     list: &mut [u8],
 ) -> Routed
     requires { ⌜ Opened m (now st) × (source < cells m) × (goal < cells m) × (length (now table) ≡ arcCount m) × (length (now keys) ≡ portalCount m) ⌝ }
-    ensures answer { λ r. ⌜ r ≡ foundAnswer (length (now (list .entry)) / 6) (throughPortals (decode (now (st .entry))) (portalGraph (decode (now (st .entry)))) source goal) ⌝ }
+    ensures answer { λ r. ⌜ r ≡ foundAnswer (throughPortals (decode (now (st .entry))) (portalGraph (decode (now (st .entry)))) source goal) ⌝ }
     ensures steps { λ _. ⌜ now (list .exit) ≡ foundInto (throughPortals (decode (now (st .entry))) (portalGraph (decode (now (st .entry)))) source goal) (now (list .entry)) ⌝ }
 {
     let mut legs: [u8; SECTOR_PORTALS] = [255; SECTOR_PORTALS];
@@ -130,7 +132,7 @@ fn key_room() -> [u32; 2000] {
 // The same in lists of its own.
 fn through_portals(st: &[u8], m: Measures, source: usize, goal: usize, list: &mut [u8]) -> Routed
     requires { ⌜ Opened m (now st) × (source < cells m) × (goal < cells m) ⌝ }
-    ensures answer { λ r. ⌜ r ≡ foundAnswer (length (now (list .entry)) / 6) (throughPortals (decode (now (st .entry))) (portalGraph (decode (now (st .entry)))) source goal) ⌝ }
+    ensures answer { λ r. ⌜ r ≡ foundAnswer (throughPortals (decode (now (st .entry))) (portalGraph (decode (now (st .entry)))) source goal) ⌝ }
     ensures steps { λ _. ⌜ now (list .exit) ≡ foundInto (throughPortals (decode (now (st .entry))) (portalGraph (decode (now (st .entry)))) source goal) (now (list .entry)) ⌝ }
 {
     let mut table = table_room();
@@ -151,7 +153,7 @@ fn through_portals(st: &[u8], m: Measures, source: usize, goal: usize, list: &mu
 // The route from one cell to another, its steps at the front of a list.
 pub fn find_path(st: &[u8], m: Measures, source: usize, goal: usize, list: &mut [u8]) -> Routed
     requires { ⌜ Opened m (now st) × (source < cells m) × (goal < cells m) ⌝ }
-    ensures answer { λ r. ⌜ r ≡ foundAnswer (length (now (list .entry)) / 6) (routeOf (decode (now (st .entry))) source goal) ⌝ }
+    ensures answer { λ r. ⌜ r ≡ foundAnswer (routeOf (decode (now (st .entry))) source goal) ⌝ }
     ensures steps { λ _. ⌜ now (list .exit) ≡ foundInto (routeOf (decode (now (st .entry))) source goal) (now (list .entry)) ⌝ }
 {
     let moves = moves_to(st, m, source, goal);

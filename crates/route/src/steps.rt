@@ -8,6 +8,7 @@ ghost use Rattle.model.specs.Sectors.{sectorAt, placeOf};
 ghost use Rattle.model.specs.Steps.{lastStep, stepBytes, flatSteps};
 ghost use Rattle.model.specs.Portals.{isPortal};
 ghost use Rattle.model.specs.Route.{stepAt, stepsOf};
+ghost use Rattle.model.specs.Calls.{routedSteps};
 ghost use Rattle.model.specs.Store.{decode};
 ghost use Rattle.graph.specs.EdgeTable.{Opened};
 ghost use Rattle.route.specs.PortalPaths.{PortalPath};
@@ -19,7 +20,19 @@ use graph::portals::midpoint;
 use graph::portals::window_of_portal;
 use model::Measures;
 use model::RouteStep;
+use model::Routed;
 use model::SectorID;
+
+// How many steps an answer has.
+pub fn steps_of(answer: Routed) -> usize
+    ensures { λ r. ⌜ r ≡ routedSteps answer ⌝ }
+{
+    match answer {
+        Routed::Route { steps, leg, run } => steps as usize,
+        Routed::NoRoute => 0,
+        Routed::Refused(n) => 0,
+    }
+}
 
 // How many steps a path of n portals has, n at least 1: the even positions before the last, and the last.
 pub fn step_count(n: usize) -> usize

@@ -1,6 +1,6 @@
 -- `route` answers and lists as a route does: each return goes by what the tests before it found.
 use Rattle.hall.proofs.Passed.{passing}
-use Rattle.hall.proofs.RouteAnswers.{refused-store, refused-23, refused-24, opened, routed-all}
+use Rattle.hall.proofs.RouteAnswers.{refused-store, refused-23, refused-24, refused-25, opened, routed-all}
 use borrow.Author.Needs.{needs}
 use Rattle.hall.proofs.routing.route.Statement.{statement}
 use Rattle.hall.proofs.routing.route.Tie as tie
@@ -31,17 +31,34 @@ returns-3 c =
 find-path-requires : tie.Need-find-path-requires
 find-path-requires c κs = search (needs, opened)
 
+steps-of-requires : tie.Need-steps-of-requires
+steps-of-requires c κs = search needs
+
 same-length : tie.Need-same-length
 same-length c = search needs
 
 returns-4 : tie.Need-returns-4
 returns-4 c =
-    let f = c .before .before in
+    let t = c .before in
+    let f = t .before .before .before in
     let e = f .before .before in
     let n = e .before .before in
     let m = n .before in
-    routed-all _ _ _ _ (m .before .before .check-store .ensures) (m .before .if1 .left) (m .measures-at .ensures) (n .cells .ensures) (e .before .if2 .left) (e .if3 .left) (f .find-path .ensures .0)
-    (f .find-path .ensures .1)
+    refused-25 _ _ _ _ (m .before .before .check-store .ensures) (m .before .if1 .left) (m .measures-at .ensures) (n .cells .ensures) (e .before .if2 .left) (e .if3 .left)
+    (f .find-path .ensures .0) (f .find-path .ensures .1) (t .steps-of .ensures) (search needs) (c .if4 .taken)
+
+same-length-2 : tie.Need-same-length-2
+same-length-2 c = search needs
+
+returns-5 : tie.Need-returns-5
+returns-5 c =
+    let t = c .before in
+    let f = t .before .before .before in
+    let e = f .before .before in
+    let n = e .before .before in
+    let m = n .before in
+    routed-all _ _ _ _ (m .before .before .check-store .ensures) (m .before .if1 .left) (m .measures-at .ensures) (n .cells .ensures) (e .before .if2 .left) (e .if3 .left)
+    (f .find-path .ensures .0) (f .find-path .ensures .1) (t .steps-of .ensures) (search needs) (c .if4 .left)
 
 pub route-spec : {M : Type 1} → statement M
 route-spec =
@@ -54,5 +71,8 @@ route-spec =
     returns-2
     returns-3
     find-path-requires
+    steps-of-requires
     same-length
-    returns-4)
+    returns-4
+    same-length-2
+    returns-5)

@@ -24,7 +24,7 @@ returns c =
     let call = c .before .before .through-portals in
     let told = c .before .before .before .before .before in
     let e = apart-found _ _ _ (told .moves-to .ensures) (c .before .before .before .before .if1 .taken) in
-    (call .ensures .0 ∙ ap (foundAnswer _) e, call .ensures .1 ∙ ap (λ (x : Found). foundInto x (now (told .before .before .before .args .list))) e)
+    (call .ensures .0 ∙ ap foundAnswer e, call .ensures .1 ∙ ap (λ (x : Found). foundInto x (now (told .before .before .before .args .list))) e)
 
 one-step-requires : tie.Need-one-step-requires
 one-step-requires c κs = let start = c .before .before .before .before .before in let few = accepted-of (start .pre .0) in (few .some-rows, few .few-sectors, start .pre .2)
@@ -38,7 +38,7 @@ returns-2 c =
     let told = c .before .before .before .before .before in
     let start = told .before .before .before in
     let e = ap (λ (m : Measures). lastRoute m (start .args .goal) (told .moves-to .result)) (sym (measures-are (start .pre .0))) ∙ joined-found _ _ _ (told .moves-to .ensures) (omega arith) in
-    (call .ensures .0 ∙ ap (foundAnswer _) e, call .ensures .1 ∙ ap (λ (x : Found). foundInto x (now (start .args .list))) e)
+    (call .ensures .0 ∙ ap foundAnswer e, call .ensures .1 ∙ ap (λ (x : Found). foundInto x (now (start .args .list))) e)
 
 pub find-path-spec : {M : Type 1} → statement M
 find-path-spec =

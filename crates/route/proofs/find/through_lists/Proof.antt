@@ -119,7 +119,7 @@ returns : tie.Need-returns
 returns c =
     let k = c .before .before .before in
     let s = S (B k) in
-    none-found _ _ _ _ _ (chosen-none (hall s) (s .args .source) (s .args .goal) (fits-of (s .pre .0)) (foremost k) (c .if1 .taken))
+    none-found _ _ _ _ (chosen-none (hall s) (s .args .source) (s .args .goal) (fits-of (s .pre .0)) (foremost k) (c .if1 .taken))
 
 array-read-leg : tie.Need-array-read-leg
 array-read-leg c = search needs
@@ -157,7 +157,7 @@ returns-2 c =
     let call = c .before .before .before .before .through-pair in
     let k = l .before .before .before in
     let f = found-is k (l .if1 .left) in
-    (call .ensures .0 ∙ ap (foundAnswer _) (sym f), call .ensures .1 ∙ ap (λ (x : Found). foundInto x (now (S (B k) .args .list))) (sym f))
+    (call .ensures .0 ∙ ap foundAnswer (sym f), call .ensures .1 ∙ ap (λ (x : Found). foundInto x (now (S (B k) .args .list))) (sym f))
 
 pub through-lists-spec : {M : Type 1} → statement M
 through-lists-spec =

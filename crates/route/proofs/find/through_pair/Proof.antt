@@ -67,40 +67,42 @@ least-path-requires c κs =
 step-count-requires : tie.Need-step-count-requires
 step-count-requires c κs = search needs
 
+cast-t22 : tie.Need-cast-t22
+cast-t22 c = omega (arith, c .step-count .ensures, few-portals (c .before .before))
+
+mul-t24 : tie.Need-mul-t24
+mul-t24 c = let s = S (K (c .before .before)) in omega (arith, start-low s, accepted-of (s .pre .0 .opened) .few-sectors)
+
+slice-read-t26 : tie.Need-slice-read-t26
+slice-read-t26 c = let k = K (c .before .before .before) in omega (arith, start-low (S k), linked k .numbers)
+
+add-t29 : tie.Need-add-t29
+add-t29 c = omega (arith, key-low (K (c .before .before .before)))
+
 same-length : tie.Need-same-length
 same-length c = search needs
 
 returns : tie.Need-returns
 returns c =
-    let l = c .before .before .before in
+    let counted = c .before .before in
+    let l = counted .before .before in
     let s = S (K l) in
-    pair-no-room _ (fits s) (s .pre .1) _ _ _ (keys-are (K l)) (l .least-path .ensures .0) (l .least-path .ensures .1) _ _ _ _ (c .before .step-count .ensures) (c .if1 .taken)
+    pair-no-room _ (fits s) (s .pre .1) _ _ _ (keys-are (K l)) (l .least-path .ensures .0) (l .least-path .ensures .1) _ _ _ _ (counted .step-count .ensures) (c .if1 .taken)
 
 slice-aggregate-write-steps : tie.Need-slice-aggregate-write-steps
 slice-aggregate-write-steps c = search needs
 
 write-steps-requires : tie.Need-write-steps-requires
 write-steps-requires c κs =
-    let counted = c .before .before .before in
+    let room = c .before .before in
+    let counted = room .before .before in
     let l = counted .before .before in
     let s = S (K l) in (
       s .pre .0 .opened,
       few-portals l .0,
       taken-path _ (fits s) (s .pre .1) _ _ _ (keys-are (K l)) (l .least-path .ensures .0) (l .least-path .ensures .1),
-      omega (arith, counted .step-count .ensures, c .before .before .if1 .left),
+      omega (arith, counted .step-count .ensures, room .if1 .left),
     )
-
-cast-t28 : tie.Need-cast-t28
-cast-t28 c = let counted = c .before .before .before .before .before .before in omega (arith, counted .step-count .ensures, few-portals (counted .before .before))
-
-mul-t21 : tie.Need-mul-t21
-mul-t21 c = let s = S (K (c .before .before .before .before .before .before .before .before)) in omega (arith, start-low s, accepted-of (s .pre .0 .opened) .few-sectors)
-
-slice-read-t31 : tie.Need-slice-read-t31
-slice-read-t31 c = let k = K (c .before .before .before .before .before .before .before .before .before) in omega (arith, start-low (S k), linked k .numbers)
-
-add-t34 : tie.Need-add-t34
-add-t34 c = omega (arith, key-low (K (c .before .before .before .before .before .before .before .before .before)))
 
 same-length-2 : tie.Need-same-length-2
 same-length-2 c = search needs
@@ -110,11 +112,12 @@ same-length-3 c = search needs
 
 returns-2 : tie.Need-returns-2
 returns-2 c =
-    let counted = c .before .before .before .before .before .before .before in
+    let room = c .before .before .before .before .before in
+    let counted = room .before .before in
     let l = counted .before .before in
     let s = S (K l) in
     pair-written _ (fits s) (s .pre .1) _ _ _ (keys-are (K l)) (l .least-path .ensures .0) (l .least-path .ensures .1) _ _ _ _ (counted .step-count .ensures)
-    (c .before .before .before .before .before .before .if1 .left) (c .before .before .before .write-steps .ensures)
+    (room .if1 .left) (c .before .before .write-steps .ensures)
 
 pub through-pair-spec : {M : Type 1} → statement M
 through-pair-spec =
@@ -124,14 +127,14 @@ through-pair-spec =
     slice-aggregate-least-path
     least-path-requires
     step-count-requires
+    cast-t22
+    mul-t24
+    slice-read-t26
+    add-t29
     same-length
     returns
     slice-aggregate-write-steps
     write-steps-requires
-    cast-t28
-    mul-t21
-    slice-read-t31
-    add-t34
     same-length-2
     same-length-3
     returns-2)
