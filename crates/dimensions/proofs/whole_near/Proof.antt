@@ -33,12 +33,6 @@ returns-4 : tie.Need-returns-4
 unfolding ofBits
 returns-4 c = search (needs, near-none)
 
-add-digits : tie.Need-add-digits
-add-digits c = search needs
-
-shr-part : tie.Need-shr-part
-shr-part c = search needs
-
 div-down : tie.Need-div-down
 div-down c = omega (arith, part-known c .low)
 
@@ -64,8 +58,8 @@ whole-near-spec =
     float-to-bits-bits
     returns
     returns-2
-    add-digits
-    shr-part
+    (λ c. search needs)
+    (λ c. search needs)
     div-down
     sub-up
     add-up

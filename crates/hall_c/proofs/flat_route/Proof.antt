@@ -5,15 +5,6 @@ use Rattle.hall_c.specs.Answers.{flatRoute}
 use Rattle.hall_c.proofs.flat_route.Statement.{statement}
 use Rattle.hall_c.proofs.flat_route.Tie as tie
 
-enum-known-answer : tie.Need-enum-known-answer
-enum-known-answer c = search needs
-
-enum-told : tie.Need-enum-told
-enum-told c = search needs
-
-enum-known-answer-2 : tie.Need-enum-known-answer-2
-enum-known-answer-2 c = search needs
-
 returns : tie.Need-returns
 returns c = ap flatRoute (sym (c .before .answer .given .1))
 
@@ -26,4 +17,4 @@ returns-3 c = ap flatRoute (sym (c .before .answer2 .given .1))
 pub flat-route-spec : {M : Type 1} → statement M
 flat-route-spec =
     tie.close
-    (tie.spec enum-known-answer enum-told enum-known-answer-2 returns returns-2 returns-3)
+    (tie.spec (λ c. search needs) (λ c. search needs) (λ c. search needs) returns returns-2 returns-3)

@@ -5,12 +5,6 @@ use Rattle.hall_c.specs.Answers.{flatWindows}
 use Rattle.hall_c.proofs.flat_windows.Statement.{statement}
 use Rattle.hall_c.proofs.flat_windows.Tie as tie
 
-enum-known-answer : tie.Need-enum-known-answer
-enum-known-answer c = search needs
-
-enum-known-answer-2 : tie.Need-enum-known-answer-2
-enum-known-answer-2 c = search needs
-
 returns : tie.Need-returns
 returns c = ap flatWindows (sym (c .before .answer .given .1))
 
@@ -18,4 +12,4 @@ returns-2 : tie.Need-returns-2
 returns-2 c = ap flatWindows (sym (c .before .answer2 .given .1))
 
 pub flat-windows-spec : {M : Type 1} → statement M
-flat-windows-spec = tie.close (tie.spec enum-known-answer enum-known-answer-2 returns returns-2)
+flat-windows-spec = tie.close (tie.spec (λ c. search needs) (λ c. search needs) returns returns-2)

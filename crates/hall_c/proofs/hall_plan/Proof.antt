@@ -6,14 +6,8 @@ use Rattle.hall_c.specs.Answers.{flatMeasures}
 use Rattle.hall_c.proofs.hall_plan.Statement.{statement}
 use Rattle.hall_c.proofs.hall_plan.Tie as tie
 
-plan-requires : tie.Need-plan-requires
-plan-requires c κs = search needs
-
-flat-measures-requires : tie.Need-flat-measures-requires
-flat-measures-requires c κs = search needs
-
 returns : tie.Need-returns
 returns c = c .flat-measures .ensures ∙ ap flatMeasures (plan-case _ (c .before .plan .ensures))
 
 pub hall-plan-spec : {M : Type 1} → statement M
-hall-plan-spec = tie.close (tie.spec plan-requires flat-measures-requires returns)
+hall-plan-spec = tie.close (tie.spec (λ c κs. search needs) (λ c κs. search needs) returns)

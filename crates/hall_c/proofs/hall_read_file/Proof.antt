@@ -6,15 +6,6 @@ use Rattle.hall_c.specs.Answers.{flatMeasures}
 use Rattle.hall_c.proofs.hall_read_file.Statement.{statement}
 use Rattle.hall_c.proofs.hall_read_file.Tie as tie
 
-read-file-requires : tie.Need-read-file-requires
-read-file-requires c κs = search needs
-
-flat-measures-requires : tie.Need-flat-measures-requires
-flat-measures-requires c κs = search needs
-
-same-length : tie.Need-same-length
-same-length c = search needs
-
 returns : tie.Need-returns
 returns c =
     let read = c .before .before .before .read-file in
@@ -22,4 +13,4 @@ returns c =
 
 pub hall-read-file-spec : {M : Type 1} → statement M
 hall-read-file-spec =
-    tie.close (tie.spec read-file-requires flat-measures-requires same-length returns)
+    tie.close (tie.spec (λ c κs. search needs) (λ c κs. search needs) (λ c. search needs) returns)

@@ -6,15 +6,6 @@ use Rattle.hall_c.specs.Answers.{flatWindows}
 use Rattle.hall_c.proofs.hall_windows.Statement.{statement}
 use Rattle.hall_c.proofs.hall_windows.Tie as tie
 
-windows-requires : tie.Need-windows-requires
-windows-requires c κs = search needs
-
-flat-windows-requires : tie.Need-flat-windows-requires
-flat-windows-requires c κs = search needs
-
-same-length : tie.Need-same-length
-same-length c = search needs
-
 returns : tie.Need-returns
 returns c =
     let listed = c .before .before .before .windows in
@@ -22,4 +13,4 @@ returns c =
 
 pub hall-windows-spec : {M : Type 1} → statement M
 hall-windows-spec =
-    tie.close (tie.spec windows-requires flat-windows-requires same-length returns)
+    tie.close (tie.spec (λ c κs. search needs) (λ c κs. search needs) (λ c. search needs) returns)

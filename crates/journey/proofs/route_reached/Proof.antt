@@ -5,14 +5,8 @@ use borrow.Author.Needs.{needs}
 use Rattle.journey.proofs.route_reached.Statement.{statement}
 use Rattle.journey.proofs.route_reached.Tie as tie
 
-route-requires : tie.Need-route-requires
-route-requires c κs = search needs
-
-same-length : tie.Need-same-length
-same-length c = search needs
-
 returns : tie.Need-returns
 returns c = (search (needs, route-case), (search needs, answer-claims _ _ _ _ (search (needs, route-case))))
 
 pub route-reached-spec : {M : Type 1} → statement M
-route-reached-spec = tie.close (tie.spec route-requires same-length returns)
+route-reached-spec = tie.close (tie.spec (λ c κs. search needs) (λ c. search needs) returns)

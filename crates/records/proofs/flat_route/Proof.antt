@@ -9,26 +9,11 @@ use Rattle.records.specs.Routing.{flatly}
 use Rattle.records.proofs.flat_route.Statement.{statement}
 use Rattle.records.proofs.flat_route.Tie as tie
 
-steps-room-requires : tie.Need-steps-room-requires
-steps-room-requires c κs = search needs
-
-mul-bytes : tie.Need-mul-bytes
-mul-bytes c = search needs
-
-slice-relend-prefix-route : tie.Need-slice-relend-prefix-route
-slice-relend-prefix-route c = search needs
-
 slice-aggregate-route : tie.Need-slice-aggregate-route
 slice-aggregate-route c =
     let s = c .before in
     let a = s .before .before .before in
     omega (arith, length-take (6 * s .steps-room .result) (a .args .flat .now), s .steps-room .ensures, a .pre)
-
-route-requires : tie.Need-route-requires
-route-requires c κs = search needs
-
-same-length : tie.Need-same-length
-same-length c = search needs
 
 returns : tie.Need-returns
 returns c =
@@ -42,10 +27,10 @@ pub flat-route-spec : {M : Type 1} → statement M
 flat-route-spec =
     tie.close
     (tie.spec
-    steps-room-requires
-    mul-bytes
-    slice-relend-prefix-route
+    (λ c κs. search needs)
+    (λ c. search needs)
+    (λ c. search needs)
     slice-aggregate-route
-    route-requires
-    same-length
+    (λ c κs. search needs)
+    (λ c. search needs)
     returns)

@@ -4,11 +4,8 @@ use borrow.Author.Needs.{needs}
 use Rattle.sector_cost.proofs.is_open.Statement.{statement}
 use Rattle.sector_cost.proofs.is_open.Tie as tie
 
-shared-slice-read-result : tie.Need-shared-slice-read-result
-shared-slice-read-result c = search needs
-
 returns : tie.Need-returns
 returns c = open-here _ _ (search needs)
 
 pub is-open-spec : {M : Type 1} → statement M
-is-open-spec = tie.close (tie.spec shared-slice-read-result returns)
+is-open-spec = tie.close (tie.spec (λ c. search needs) returns)

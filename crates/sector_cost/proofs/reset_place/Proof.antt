@@ -6,20 +6,11 @@ use borrow.Author.Needs.{needs}
 use Rattle.sector_cost.proofs.reset_place.Statement.{statement}
 use Rattle.sector_cost.proofs.reset_place.Tie as tie
 
-is-there-requires : tie.Need-is-there-requires
-is-there-requires c κs = search needs
-
-nearby-requires : tie.Need-nearby-requires
-nearby-requires c κs = search needs
-
 reset-sector-requires : tie.Need-reset-sector-requires
 reset-sector-requires c κs =
     let t = c .before .before in
     let a = t .before .before .before .before .args in
     omega (arith, c .before .nearby .ensures, nearby-lt (a .m) (a .t) (a .k) (search needs) (sym (t .before .is-there .ensures) ∙ t .if1 .taken))
-
-same-length : tie.Need-same-length
-same-length c = search needs
 
 returns : tie.Need-returns
 returns c =
@@ -34,9 +25,9 @@ pub reset-place-spec : {M : Type 1} → statement M
 reset-place-spec =
     tie.close
     (tie.spec
-    is-there-requires
-    nearby-requires
+    (λ c κs. search needs)
+    (λ c κs. search needs)
     reset-sector-requires
-    same-length
+    (λ c. search needs)
     returns
     returns-2)

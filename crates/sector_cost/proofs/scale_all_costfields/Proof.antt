@@ -13,35 +13,14 @@ use Rattle.sector_cost.proofs.scale_all_costfields.Tie as tie
 copied-base : (c : tie.After-copy) → c .copy .last .1 .0 ≡ now (c .before .before .before .before .args .base)
 copied-base c = copied _ _ (search needs) (c .copy .ensures .1)
 
-copy-requires : tie.Need-copy-requires
-copy-requires c κs = search needs
-
-same-length : tie.Need-same-length
-same-length c = search needs
-
 returns : tie.Need-returns
 returns c = let p = c .before .before .before .before in copied-base p ∙ sym (floor-one _ (c .if1 .taken) _)
-
-walls-requires : tie.Need-walls-requires
-walls-requires c κs = search needs
-
-slice-aggregate-show-floor : tie.Need-slice-aggregate-show-floor
-slice-aggregate-show-floor c = search needs
 
 show-floor-requires : tie.Need-show-floor-requires
 show-floor-requires c κs = (search needs, showing-none (c .before .before .walls .ensures))
 
-sectors-requires : tie.Need-sectors-requires
-sectors-requires c κs = search needs
-
-slice-aggregate-scale-sectors : tie.Need-slice-aggregate-scale-sectors
-slice-aggregate-scale-sectors c = search needs
-
 scale-sectors-requires : tie.Need-scale-sectors-requires
 scale-sectors-requires c κs = (search needs, search needs, search needs, c .before .before .before .before .show-floor .ensures)
-
-same-length-2 : tie.Need-same-length-2
-same-length-2 c = search needs
 
 returns-2 : tie.Need-returns-2
 unfolding scaleFloor
@@ -55,14 +34,14 @@ pub scale-all-costfields-spec : {M : Type 1} → statement M
 scale-all-costfields-spec =
     tie.close
     (tie.spec
-    copy-requires
-    same-length
+    (λ c κs. search needs)
+    (λ c. search needs)
     returns
-    walls-requires
-    slice-aggregate-show-floor
+    (λ c κs. search needs)
+    (λ c. search needs)
     show-floor-requires
-    sectors-requires
-    slice-aggregate-scale-sectors
+    (λ c κs. search needs)
+    (λ c. search needs)
     scale-sectors-requires
-    same-length-2
+    (λ c. search needs)
     returns-2)

@@ -4,27 +4,9 @@ use borrow.Author.Needs.{needs}
 use Rattle.sector_cost.proofs.scale_cell.Statement.{statement}
 use Rattle.sector_cost.proofs.scale_cell.Tie as tie
 
-mul-is-open : tie.Need-mul-is-open
-mul-is-open c = search needs
-
-add-is-open : tie.Need-add-is-open
-add-is-open c = search needs
-
-is-open-requires : tie.Need-is-open-requires
-is-open-requires c κs = search needs
-
 returns : tie.Need-returns
 unfolding scaleCell
 returns c = (simp (← c .before .is-open .ensures, c .if1 .taken), c .before .before .before .before .before .pre .1)
-
-scale-in-directions-requires : tie.Need-scale-in-directions-requires
-scale-in-directions-requires c κs = search needs
-
-same-length : tie.Need-same-length
-same-length c = search needs
-
-same-length-2 : tie.Need-same-length-2
-same-length-2 c = search needs
 
 returns-2 : tie.Need-returns-2
 unfolding scaleCell
@@ -37,11 +19,11 @@ pub scale-cell-spec : {M : Type 1} → statement M
 scale-cell-spec =
     tie.close
     (tie.spec
-    mul-is-open
-    add-is-open
-    is-open-requires
+    (λ c. search needs)
+    (λ c. search needs)
+    (λ c κs. search needs)
     returns
-    scale-in-directions-requires
-    same-length
-    same-length-2
+    (λ c κs. search needs)
+    (λ c. search needs)
+    (λ c. search needs)
     returns-2)

@@ -5,12 +5,6 @@ use borrow.Author.Needs.{needs}
 use Rattle.sector_cost.proofs.scale_place.Statement.{statement}
 use Rattle.sector_cost.proofs.scale_place.Tie as tie
 
-is-there-requires : tie.Need-is-there-requires
-is-there-requires c κs = search needs
-
-nearby-requires : tie.Need-nearby-requires
-nearby-requires c κs = search needs
-
 scale-costfield-requires : tie.Need-scale-costfield-requires
 scale-costfield-requires c κs =
     let n = c .before .before in
@@ -18,12 +12,6 @@ scale-costfield-requires c κs =
     let a = t .before .before .before .before .before .args in
     let l = nearby-lt (a .m) (a .t) (a .k) (search needs) (sym (t .before .is-there .ensures) ∙ t .if1 .taken) in
     rw (n .nearby .ensures) (search needs)
-
-same-length : tie.Need-same-length
-same-length c = search needs
-
-same-length-2 : tie.Need-same-length-2
-same-length-2 c = search needs
 
 returns : tie.Need-returns
 returns c =
@@ -38,10 +26,10 @@ pub scale-place-spec : {M : Type 1} → statement M
 scale-place-spec =
     tie.close
     (tie.spec
-    is-there-requires
-    nearby-requires
+    (λ c κs. search needs)
+    (λ c κs. search needs)
     scale-costfield-requires
-    same-length
-    same-length-2
+    (λ c. search needs)
+    (λ c. search needs)
     returns
     returns-2)

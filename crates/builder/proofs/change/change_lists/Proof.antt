@@ -8,41 +8,11 @@ use borrow.Author.Needs.{needs}
 use Rattle.builder.proofs.change.change_lists.Statement.{statement}
 use Rattle.builder.proofs.change.change_lists.Tie as tie
 
-base-part-requires : tie.Need-base-part-requires
-base-part-requires c κs = search needs
-
-copy-requires : tie.Need-copy-requires
-copy-requires c κs = search needs
-
-slice-write-base : tie.Need-slice-write-base
-slice-write-base c = search needs
-
-scaled-part-requires : tie.Need-scaled-part-requires
-scaled-part-requires c κs = search needs
-
-copy-requires-2 : tie.Need-copy-requires-2
-copy-requires-2 c κs = search needs
-
 rescale-requires : tie.Need-rescale-requires
 rescale-requires c κs =
     let base = c .before .before .before .before .before .before .before .before in
     let k = base .before .before .before .before .before .before .before .before .pre .0 in
     (costs-changed k _ (simp length-set (omega arith)), costs-changed k _ (search needs), search needs)
-
-take-marks-requires : tie.Need-take-marks-requires
-take-marks-requires c κs = search needs
-
-remark-requires : tie.Need-remark-requires
-remark-requires c κs = search needs
-
-same-length : tie.Need-same-length
-same-length c = search needs
-
-same-length-2 : tie.Need-same-length-2
-same-length-2 c = search needs
-
-same-length-3 : tie.Need-same-length-3
-same-length-3 c = search needs
 
 returns : tie.Need-returns
 returns c =
@@ -63,15 +33,15 @@ pub change-lists-spec : {M : Type 1} → statement M
 change-lists-spec =
     tie.close
     (tie.spec
-    base-part-requires
-    copy-requires
-    slice-write-base
-    scaled-part-requires
-    copy-requires-2
+    (λ c κs. search needs)
+    (λ c κs. search needs)
+    (λ c. search needs)
+    (λ c κs. search needs)
+    (λ c κs. search needs)
     rescale-requires
-    take-marks-requires
-    remark-requires
-    same-length
-    same-length-2
-    same-length-3
+    (λ c κs. search needs)
+    (λ c κs. search needs)
+    (λ c. search needs)
+    (λ c. search needs)
+    (λ c. search needs)
     returns)

@@ -4,25 +4,10 @@ use borrow.Author.Needs.{needs}
 use Rattle.builder.proofs.change.exceeds_at.Statement.{statement}
 use Rattle.builder.proofs.change.exceeds_at.Tie as tie
 
-side-at-requires : tie.Need-side-at-requires
-side-at-requires c κs = search needs
-
-is-edge-requires : tie.Need-is-edge-requires
-is-edge-requires c κs = search needs
-
-beyond-requires : tie.Need-beyond-requires
-beyond-requires c κs = search needs
-
-opposite-requires : tie.Need-opposite-requires
-opposite-requires c κs = search needs
-
 windows-on-requires : tie.Need-windows-on-requires
 windows-on-requires c κs =
     let start = c .before .before .before .before .before .before in
     (start .pre .1, beyond-few _ (c .before .before .before .before .side-at .result) (start .pre .0) (search needs) (c .before .beyond .ensures))
-
-windows-on-requires-2 : tie.Need-windows-on-requires-2
-windows-on-requires-2 c κs = search needs
 
 returns : tie.Need-returns
 returns c =
@@ -39,11 +24,11 @@ pub exceeds-at-spec : {M : Type 1} → statement M
 exceeds-at-spec =
     tie.close
     (tie.spec
-    side-at-requires
-    is-edge-requires
-    beyond-requires
-    opposite-requires
+    (λ c κs. search needs)
+    (λ c κs. search needs)
+    (λ c κs. search needs)
+    (λ c κs. search needs)
     windows-on-requires
-    windows-on-requires-2
+    (λ c κs. search needs)
     returns
     returns-2)

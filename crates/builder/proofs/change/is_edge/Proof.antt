@@ -3,15 +3,6 @@ use borrow.Author.Needs.{needs}
 use Rattle.builder.proofs.change.is_edge.Statement.{statement}
 use Rattle.builder.proofs.change.is_edge.Tie as tie
 
-has-beyond-requires : tie.Need-has-beyond-requires
-has-beyond-requires c κs = search needs
-
-beyond-requires : tie.Need-beyond-requires
-beyond-requires c κs = search needs
-
-is-nearby-requires : tie.Need-is-nearby-requires
-is-nearby-requires c κs = search needs
-
 returns : tie.Need-returns
 returns c =
     let there = c .before in
@@ -23,4 +14,4 @@ returns-2 c = simp (← c .before .has-beyond .ensures, c .if1 .left)
 
 pub is-edge-spec : {M : Type 1} → statement M
 is-edge-spec =
-    tie.close (tie.spec has-beyond-requires beyond-requires is-nearby-requires returns returns-2)
+    tie.close (tie.spec (λ c κs. search needs) (λ c κs. search needs) (λ c κs. search needs) returns returns-2)

@@ -6,12 +6,6 @@ use borrow.Author.Needs.{needs}
 use Rattle.builder.proofs.change.place_exceeds.Statement.{statement}
 use Rattle.builder.proofs.change.place_exceeds.Tie as tie
 
-is-there-requires : tie.Need-is-there-requires
-is-there-requires c κs = search needs
-
-nearby-requires : tie.Need-nearby-requires
-nearby-requires c κs = search needs
-
 sector-exceeds-requires : tie.Need-sector-exceeds-requires
 sector-exceeds-requires c κs =
     let t = c .before in
@@ -32,4 +26,4 @@ returns-2 c = rw (← c .before .is-there .ensures, c .if1 .left)
 pub place-exceeds-spec : {M : Type 1} → statement M
 place-exceeds-spec =
     tie.close
-    (tie.spec is-there-requires nearby-requires sector-exceeds-requires returns returns-2)
+    (tie.spec (λ c κs. search needs) (λ c κs. search needs) sector-exceeds-requires returns returns-2)

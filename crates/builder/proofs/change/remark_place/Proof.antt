@@ -5,21 +5,12 @@ use borrow.Author.Needs.{needs}
 use Rattle.builder.proofs.change.remark_place.Statement.{statement}
 use Rattle.builder.proofs.change.remark_place.Tie as tie
 
-is-there-requires : tie.Need-is-there-requires
-is-there-requires c κs = search needs
-
-nearby-requires : tie.Need-nearby-requires
-nearby-requires c κs = search needs
-
 remark-sector-requires : tie.Need-remark-sector-requires
 remark-sector-requires c κs =
     let t = c .before .before in
     let a = t .before .before .before .before .args in
     let l = nearby-lt (a .m) (a .t) (a .k) (search needs) (sym (t .before .is-there .ensures) ∙ t .if1 .taken) in
     rw (c .before .nearby .ensures) (search needs)
-
-same-length : tie.Need-same-length
-same-length c = search needs
 
 returns : tie.Need-returns
 returns c =
@@ -34,9 +25,9 @@ pub remark-place-spec : {M : Type 1} → statement M
 remark-place-spec =
     tie.close
     (tie.spec
-    is-there-requires
-    nearby-requires
+    (λ c κs. search needs)
+    (λ c κs. search needs)
     remark-sector-requires
-    same-length
+    (λ c. search needs)
     returns
     returns-2)

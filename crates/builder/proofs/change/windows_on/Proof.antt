@@ -5,20 +5,8 @@ use borrow.Author.Needs.{needs}
 use Rattle.builder.proofs.change.windows_on.Statement.{statement}
 use Rattle.builder.proofs.change.windows_on.Tie as tie
 
-mul-mark-or-none : tie.Need-mul-mark-or-none
-mul-mark-or-none c = search needs
-
-side-number-requires : tie.Need-side-number-requires
-side-number-requires c κs = search needs
-
 add-mark-or-none : tie.Need-add-mark-or-none
 add-mark-or-none c = omega (arith, side-few (c .before .before .args .side) (c .side-number .ensures))
-
-mark-or-none-requires : tie.Need-mark-or-none-requires
-mark-or-none-requires c κs = search needs
-
-window-count-requires : tie.Need-window-count-requires
-window-count-requires c κs = search needs
 
 returns : tie.Need-returns
 returns c =
@@ -30,9 +18,9 @@ pub windows-on-spec : {M : Type 1} → statement M
 windows-on-spec =
     tie.close
     (tie.spec
-    mul-mark-or-none
-    side-number-requires
+    (λ c. search needs)
+    (λ c κs. search needs)
     add-mark-or-none
-    mark-or-none-requires
-    window-count-requires
+    (λ c κs. search needs)
+    (λ c κs. search needs)
     returns)

@@ -4,21 +4,6 @@ use borrow.Author.Needs.{needs}
 use Rattle.cards.proofs.decimal.put_decimal.Statement.{statement}
 use Rattle.cards.proofs.decimal.put_decimal.Tie as tie
 
-digit-count-requires : tie.Need-digit-count-requires
-digit-count-requires c κs = search needs
-
-put-digits-requires : tie.Need-put-digits-requires
-put-digits-requires c κs = search needs
-
-add-result : tie.Need-add-result
-add-result c = search needs
-
-same-length : tie.Need-same-length
-same-length c = search needs
-
-returns : tie.Need-returns
-returns c = search (needs, decimal-put)
-
 pub put-decimal-spec : {M : Type 1} → statement M
 put-decimal-spec =
-    tie.close (tie.spec digit-count-requires put-digits-requires add-result same-length returns)
+    tie.close (tie.spec (λ c κs. search needs) (λ c κs. search needs) (λ c. search needs) (λ c. search needs) (λ c. search (needs, decimal-put)))

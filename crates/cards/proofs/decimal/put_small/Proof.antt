@@ -4,17 +4,5 @@ use borrow.Author.Needs.{needs}
 use Rattle.cards.proofs.decimal.put_small.Statement.{statement}
 use Rattle.cards.proofs.decimal.put_small.Tie as tie
 
-wide-requires : tie.Need-wide-requires
-wide-requires c κs = search needs
-
-put-decimal-requires : tie.Need-put-decimal-requires
-put-decimal-requires c κs = search (needs, short)
-
-same-length : tie.Need-same-length
-same-length c = search needs
-
-returns : tie.Need-returns
-returns c = search (needs, short)
-
 pub put-small-spec : {M : Type 1} → statement M
-put-small-spec = tie.close (tie.spec wide-requires put-decimal-requires same-length returns)
+put-small-spec = tie.close (tie.spec (λ c κs. search needs) (λ c κs. search (needs, short)) (λ c. search needs) (λ c. search (needs, short)))

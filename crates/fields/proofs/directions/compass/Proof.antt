@@ -18,27 +18,6 @@ rest (suc (suc (suc (suc (suc zero))))) a b d e f g h = absurd (g refl)
 rest (suc (suc (suc (suc (suc (suc zero)))))) a b d e f g h = absurd (h refl)
 rest (suc (suc (suc (suc (suc (suc (suc k))))))) a b d e f g h = refl
 
-returns : tie.Need-returns
-returns c = search needs
-
-returns-2 : tie.Need-returns-2
-returns-2 c = search needs
-
-returns-3 : tie.Need-returns-3
-returns-3 c = search needs
-
-returns-4 : tie.Need-returns-4
-returns-4 c = search needs
-
-returns-5 : tie.Need-returns-5
-returns-5 c = search needs
-
-returns-6 : tie.Need-returns-6
-returns-6 c = search needs
-
-returns-7 : tie.Need-returns-7
-returns-7 c = search needs
-
 returns-8 : tie.Need-returns-8
 returns-8 c =
     let no = c .match .rest in
@@ -47,4 +26,4 @@ returns-8 c =
 pub compass-spec : {M : Type 1} → statement M
 compass-spec =
     tie.close
-    (tie.spec returns returns-2 returns-3 returns-4 returns-5 returns-6 returns-7 returns-8)
+    (tie.spec (λ c. search needs) (λ c. search needs) (λ c. search needs) (λ c. search needs) (λ c. search needs) (λ c. search needs) (λ c. search needs) returns-8)

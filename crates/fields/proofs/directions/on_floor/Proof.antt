@@ -6,29 +6,11 @@ use borrow.Author.Needs.{needs}
 use Rattle.fields.proofs.directions.on_floor.Statement.{statement}
 use Rattle.fields.proofs.directions.on_floor.Tie as tie
 
-wide-requires : tie.Need-wide-requires
-wide-requires c κs = search needs
-
-div-on-axis : tie.Need-div-on-axis
-div-on-axis c = search needs
-
 add-on-axis : tie.Need-add-on-axis
 add-on-axis c = omega (arith, div-le-self (c .before .args .s) (c .wide .result))
 
-wide-requires-2 : tie.Need-wide-requires-2
-wide-requires-2 c κs = search needs
-
-on-axis-requires : tie.Need-on-axis-requires
-on-axis-requires c κs = search needs
-
-rem-on-axis : tie.Need-rem-on-axis
-rem-on-axis c = search needs
-
 add-on-axis-2 : tie.Need-add-on-axis-2
 add-on-axis-2 c = omega (arith, mod-le (c .before .before .before .before .args .s) (c .before .before .before .wide .result))
-
-on-axis-requires-2 : tie.Need-on-axis-requires-2
-on-axis-requires-2 c κs = search needs
 
 returns : tie.Need-returns
 unfolding onFloor
@@ -43,13 +25,13 @@ pub on-floor-spec : {M : Type 1} → statement M
 on-floor-spec =
     tie.close
     (tie.spec
-    wide-requires
-    div-on-axis
+    (λ c κs. search needs)
+    (λ c. search needs)
     add-on-axis
-    wide-requires-2
-    on-axis-requires
-    rem-on-axis
+    (λ c κs. search needs)
+    (λ c κs. search needs)
+    (λ c. search needs)
     add-on-axis-2
-    on-axis-requires-2
+    (λ c κs. search needs)
     returns
     returns-2)

@@ -4,33 +4,6 @@ use borrow.Author.Needs.{needs}
 use Rattle.fields.proofs.sectors.beyond.Statement.{statement}
 use Rattle.fields.proofs.sectors.beyond.Tie as tie
 
-wide-requires : tie.Need-wide-requires
-wide-requires c κs = search needs
-
-enum-told : tie.Need-enum-told
-enum-told c = search needs
-
-less-requires : tie.Need-less-requires
-less-requires c κs = search needs
-
-enum-told-2 : tie.Need-enum-told-2
-enum-told-2 c = search needs
-
-add-result : tie.Need-add-result
-add-result c = search needs
-
-enum-told-3 : tie.Need-enum-told-3
-enum-told-3 c = search needs
-
-add-result-2 : tie.Need-add-result-2
-add-result-2 c = search needs
-
-enum-told-4 : tie.Need-enum-told-4
-enum-told-4 c = search needs
-
-less-requires-2 : tie.Need-less-requires-2
-less-requires-2 c κs = search needs
-
 returns : tie.Need-returns
 unfolding beyond
 returns c = rw (c .before .enum-told .given .1) (c .less .ensures)
@@ -51,15 +24,15 @@ pub beyond-spec : {M : Type 1} → statement M
 beyond-spec =
     tie.close
     (tie.spec
-    wide-requires
-    enum-told
-    less-requires
-    enum-told-2
-    add-result
-    enum-told-3
-    add-result-2
-    enum-told-4
-    less-requires-2
+    (λ c κs. search needs)
+    (λ c. search needs)
+    (λ c κs. search needs)
+    (λ c. search needs)
+    (λ c. search needs)
+    (λ c. search needs)
+    (λ c. search needs)
+    (λ c. search needs)
+    (λ c κs. search needs)
     returns
     returns-2
     returns-3

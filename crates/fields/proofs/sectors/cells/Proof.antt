@@ -5,14 +5,8 @@ use borrow.Author.Needs.{needs}
 use Rattle.fields.proofs.sectors.cells.Statement.{statement}
 use Rattle.fields.proofs.sectors.cells.Tie as tie
 
-sectors-requires : tie.Need-sectors-requires
-sectors-requires c κs = search needs
-
 mul-result : tie.Need-mul-result
 mul-result c = omega (arith, bytes-product {a = c .before .args .m .columns} {b = c .before .args .m .rows} (omega arith) (omega arith))
 
-returns : tie.Need-returns
-returns c = search needs
-
 pub cells-spec : {M : Type 1} → statement M
-cells-spec = tie.close (tie.spec sectors-requires mul-result returns)
+cells-spec = tie.close (tie.spec (λ c κs. search needs) mul-result (λ c. search needs))

@@ -5,12 +5,6 @@ use borrow.Author.Needs.{needs}
 use Rattle.fields.proofs.sectors.sectors.Statement.{statement}
 use Rattle.fields.proofs.sectors.sectors.Tie as tie
 
-wide-requires : tie.Need-wide-requires
-wide-requires c κs = search needs
-
-wide-requires-2 : tie.Need-wide-requires-2
-wide-requires-2 c κs = search needs
-
 mul-result : tie.Need-mul-result
 mul-result c = omega (arith, bytes-product (c .before .wide .ensures .1) (c .wide2 .ensures .1))
 
@@ -21,4 +15,4 @@ returns c =
     cc
 
 pub sectors-spec : {M : Type 1} → statement M
-sectors-spec = tie.close (tie.spec wide-requires wide-requires-2 mul-result returns)
+sectors-spec = tie.close (tie.spec (λ c κs. search needs) (λ c κs. search needs) mul-result returns)

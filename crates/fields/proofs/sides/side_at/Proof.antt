@@ -15,17 +15,8 @@ rest (suc zero) h = absurd (omega arith)
 rest (suc (suc zero)) h = absurd (omega arith)
 rest (suc (suc (suc k))) h = refl
 
-returns : tie.Need-returns
-returns c = search needs
-
-returns-2 : tie.Need-returns-2
-returns-2 c = search needs
-
-returns-3 : tie.Need-returns-3
-returns-3 c = search needs
-
 returns-4 : tie.Need-returns-4
 returns-4 c = rest (c .before .args .k) (omega arith)
 
 pub side-at-spec : {M : Type 1} → statement M
-side-at-spec = tie.close (tie.spec returns returns-2 returns-3 returns-4)
+side-at-spec = tie.close (tie.spec (λ c. search needs) (λ c. search needs) (λ c. search needs) returns-4)

@@ -10,20 +10,8 @@ use Rattle.graph.proofs.edges.edge_at.Tie as tie
 returns : tie.Need-returns
 returns c = edge-own _ _ _ _ _ (c .if1 .taken)
 
-near-by-requires : tie.Need-near-by-requires
-near-by-requires c κs = search needs
-
 returns-2 : tie.Need-returns-2
 returns-2 c = edge-far _ _ _ _ _ (c .before .before .if1 .left) (c .before .near-by .ensures) (c .if2 .taken)
-
-cast-result : tie.Need-cast-result
-cast-result c = search needs
-
-mul-result : tie.Need-mul-result
-mul-result c = search needs
-
-add-result : tie.Need-add-result
-add-result c = search needs
 
 returns-3 : tie.Need-returns-3
 returns-3 c = edge-near _ _ _ _ _ (c .before .before .if1 .left) (c .before .near-by .ensures) (omega arith)
@@ -31,4 +19,4 @@ returns-3 c = edge-near _ _ _ _ _ (c .before .before .if1 .left) (c .before .nea
 pub edge-at-spec : {M : Type 1} → statement M
 edge-at-spec =
     tie.close
-    (tie.spec returns near-by-requires returns-2 cast-result mul-result add-result returns-3)
+    (tie.spec returns (λ c κs. search needs) returns-2 (λ c. search needs) (λ c. search needs) (λ c. search needs) returns-3)

@@ -42,9 +42,6 @@ shared-slice-read-mid c = omega (arith, mids-20 c)
 clear-places-requires : tie.Need-clear-places-requires
 clear-places-requires c κs = (few (c .before .before), room (c .before .before))
 
-same-length : tie.Need-same-length
-same-length c = search needs
-
 returns : tie.Need-returns
 returns c =
     let at = c .before .before .before .before .before in
@@ -53,9 +50,6 @@ returns c =
 
 mul-moves-from : tie.Need-mul-moves-from
 mul-moves-from c = omega (arith, few (c .before))
-
-wide-requires : tie.Need-wide-requires
-wide-requires c κs = search needs
 
 add-moves-from : tie.Need-add-moves-from
 add-moves-from c = omega (arith, few (c .before .before), c .wide .ensures)
@@ -72,20 +66,11 @@ moves-from-requires c κs =
       S at .pre .1 .1,
     )
 
-outer-edge-requires : tie.Need-outer-edge-requires
-outer-edge-requires c κs = search needs
-
 fill-places-requires : tie.Need-fill-places-requires
 fill-places-requires c κs =
     let spread = c .before .before .before .before .before .moves-from .ensures in
     let at = c .before .before .before .before .before .before .before .before .before in
     (spread .long, spread .few, mids-20 at, few at, room at)
-
-same-length-2 : tie.Need-same-length-2
-same-length-2 c = search needs
-
-same-length-3 : tie.Need-same-length-3
-same-length-3 c = search needs
 
 returns-2 : tie.Need-returns-2
 returns-2 c =
@@ -106,14 +91,14 @@ fill-number-spec =
     (tie.spec
     shared-slice-read-mid
     clear-places-requires
-    same-length
+    (λ c. search needs)
     returns
     mul-moves-from
-    wide-requires
+    (λ c κs. search needs)
     add-moves-from
     moves-from-requires
-    outer-edge-requires
+    (λ c κs. search needs)
     fill-places-requires
-    same-length-2
-    same-length-3
+    (λ c. search needs)
+    (λ c. search needs)
     returns-2)

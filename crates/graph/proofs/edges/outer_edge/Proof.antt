@@ -9,9 +9,6 @@ use Rattle.graph.specs.Weights.{outer-is}
 use Rattle.graph.proofs.edges.outer_edge.Statement.{statement}
 use Rattle.graph.proofs.edges.outer_edge.Tie as tie
 
-portal-side-requires : tie.Need-portal-side-requires
-portal-side-requires c κs = search needs
-
 has-beyond-requires : tie.Need-has-beyond-requires
 has-beyond-requires c κs = omega (arith, accepted-of (c .before .before .pre .0) .some-rows, accepted-of (c .before .before .pre .0) .few-sectors, c .before .before .pre .1)
 
@@ -22,9 +19,6 @@ returns c =
 
 facing-requires : tie.Need-facing-requires
 facing-requires c κs = let o = c .before .before .before .before .pre in omega (arith, accepted-of (o .0) .few-rows, accepted-of (o .0) .few-sectors, o .1)
-
-is-portal-requires : tie.Need-is-portal-requires
-is-portal-requires c κs = search needs
 
 returns-2 : tie.Need-returns-2
 returns-2 c =
@@ -44,10 +38,10 @@ pub outer-edge-spec : {M : Type 1} → statement M
 outer-edge-spec =
     tie.close
     (tie.spec
-    portal-side-requires
+    (λ c κs. search needs)
     has-beyond-requires
     returns
     facing-requires
-    is-portal-requires
+    (λ c κs. search needs)
     returns-2
     returns-3)

@@ -5,14 +5,8 @@ use borrow.Author.Needs.{needs}
 use Rattle.graph.proofs.near.mid_of.Statement.{statement}
 use Rattle.graph.proofs.near.mid_of.Tie as tie
 
-is-portal-requires : tie.Need-is-portal-requires
-is-portal-requires c κs = search needs
-
 midpoint-requires : tie.Need-midpoint-requires
 midpoint-requires c κs = (c .before .before .before .pre, sym (c .before .is-portal .ensures) ∙ c .if1 .taken)
-
-byte-requires : tie.Need-byte-requires
-byte-requires c κs = search needs
 
 returns : tie.Need-returns
 returns c = mid-some _ _ (sym (c .before .before .before .is-portal .ensures) ∙ c .before .before .if1 .taken) (c .byte .ensures ∙ c .before .midpoint .ensures .0)
@@ -22,4 +16,4 @@ returns-2 c = mid-none _ _ (sym (c .before .is-portal .ensures) ∙ c .if1 .left
 
 pub mid-of-spec : {M : Type 1} → statement M
 mid-of-spec =
-    tie.close (tie.spec is-portal-requires midpoint-requires byte-requires returns returns-2)
+    tie.close (tie.spec (λ c κs. search needs) midpoint-requires (λ c κs. search needs) returns returns-2)

@@ -11,17 +11,11 @@ use borrow.Author.Needs.{needs}
 use Rattle.graph.proofs.near.moves_from.Statement.{statement}
 use Rattle.graph.proofs.near.moves_from.Tie as tie
 
-sector-part-requires : tie.Need-sector-part-requires
-sector-part-requires c κs = search (needs, accepted-of, room-of)
-
 spread-requires : tie.Need-spread-requires
 spread-requires c κs =
     let p = c .before in
     let start = p .before .before .before .before in
     (p .sector-part .ensures .1, start .pre .2 ∙ ap openWords (sym (sector-read (start .pre .0) _ (p .sector-part .ensures .0))), omega arith, start .pre .3)
-
-same-length : tie.Need-same-length
-same-length c = search needs
 
 returns : tie.Need-returns
 returns c =
@@ -32,4 +26,4 @@ returns c =
     record { long = spread .long; few = spread .few; found = spread .found ∙ ap (λ (k : List ℕ). moves k (placeOf (start .args .x))) (sector-read (start .pre .0) _ (p .sector-part .ensures .0)) }
 
 pub moves-from-spec : {M : Type 1} → statement M
-moves-from-spec = tie.close (tie.spec sector-part-requires spread-requires same-length returns)
+moves-from-spec = tie.close (tie.spec (λ c κs. search (needs, accepted-of, room-of)) spread-requires (λ c. search needs) returns)

@@ -10,14 +10,8 @@ use Rattle.graph.proofs.near.near_by.Tie as tie
 returns : tie.Need-returns
 returns c = near-none _ _ (c .if1 .taken)
 
-wide-requires : tie.Need-wide-requires
-wide-requires c κs = search needs
-
-moves-at-requires : tie.Need-moves-at-requires
-moves-at-requires c κs = search needs
-
 returns-2 : tie.Need-returns-2
 returns-2 c = c .moves-at .ensures ∙ near-some _ _ (c .before .before .if1 .left) (c .before .wide .ensures .0)
 
 pub near-by-spec : {M : Type 1} → statement M
-near-by-spec = tie.close (tie.spec returns wide-requires moves-at-requires returns-2)
+near-by-spec = tie.close (tie.spec returns (λ c κs. search needs) (λ c κs. search needs) returns-2)

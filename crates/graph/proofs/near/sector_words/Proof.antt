@@ -6,15 +6,6 @@ use borrow.Author.Needs.{needs}
 use Rattle.graph.proofs.near.sector_words.Statement.{statement}
 use Rattle.graph.proofs.near.sector_words.Tie as tie
 
-sector-part-requires : tie.Need-sector-part-requires
-sector-part-requires c κs = search (needs, accepted-of, room-of)
-
-open-words-requires : tie.Need-open-words-requires
-open-words-requires c κs = search needs
-
-same-length : tie.Need-same-length
-same-length c = search needs
-
 returns : tie.Need-returns
 returns c =
     let w = c .before .before in
@@ -23,4 +14,4 @@ returns c =
 
 pub sector-words-spec : {M : Type 1} → statement M
 sector-words-spec =
-    tie.close (tie.spec sector-part-requires open-words-requires same-length returns)
+    tie.close (tie.spec (λ c κs. search (needs, accepted-of, room-of)) (λ c κs. search needs) (λ c. search needs) returns)

@@ -27,20 +27,8 @@ same : (m : Measures) (p : ℕ) {side back : Side} {s k : ℕ} → side ≡ side
 unfolding facing
 same m p e f g k = rw (k, g, f, e)
 
-portal-side-requires : tie.Need-portal-side-requires
-portal-side-requires c κs = search needs
-
-beyond-requires : tie.Need-beyond-requires
-beyond-requires c κs = search needs
-
 mul-result : tie.Need-mul-result
 mul-result c = omega (arith, far c)
-
-opposite-requires : tie.Need-opposite-requires
-opposite-requires c κs = search needs
-
-side-number-requires : tie.Need-side-number-requires
-side-number-requires c κs = search needs
 
 mul-result-2 : tie.Need-mul-result-2
 mul-result-2 c = omega (arith, near c)
@@ -60,11 +48,11 @@ pub facing-spec : {M : Type 1} → statement M
 facing-spec =
     tie.close
     (tie.spec
-    portal-side-requires
-    beyond-requires
+    (λ c κs. search needs)
+    (λ c κs. search needs)
     mul-result
-    opposite-requires
-    side-number-requires
+    (λ c κs. search needs)
+    (λ c κs. search needs)
     mul-result-2
     add-result
     add-result-2

@@ -6,20 +6,11 @@ use Rattle.graph.specs.EdgeTable.{bare}
 use Rattle.graph.proofs.portals.head_of.Statement.{statement}
 use Rattle.graph.proofs.portals.head_of.Tie as tie
 
-facing-requires : tie.Need-facing-requires
-facing-requires c κs = search needs
-
 returns : tie.Need-returns
 returns c = c .facing .ensures ∙ sym (head-own (bare (c .before .before .args .m)) (c .before .before .args .p) (c .before .before .args .c) (c .before .if1 .taken))
-
-mul-result : tie.Need-mul-result
-mul-result c = search needs
-
-add-result : tie.Need-add-result
-add-result c = search needs
 
 returns-2 : tie.Need-returns-2
 returns-2 c = sym (head-other (bare (c .before .args .m)) (c .before .args .p) (c .before .args .c) (c .if1 .left))
 
 pub head-of-spec : {M : Type 1} → statement M
-head-of-spec = tie.close (tie.spec facing-requires returns mul-result add-result returns-2)
+head-of-spec = tie.close (tie.spec (λ c κs. search needs) returns (λ c. search needs) (λ c. search needs) returns-2)

@@ -7,17 +7,11 @@ use Rattle.graph.specs.Reading.{no-sector, window-test}
 use Rattle.graph.proofs.portals.is_portal.Statement.{statement}
 use Rattle.graph.proofs.portals.is_portal.Tie as tie
 
-sectors-requires : tie.Need-sectors-requires
-sectors-requires c κs = search needs
-
 returns : tie.Need-returns
 returns c = no-sector (c .before .before .before .pre) (c .before .before .before .args .p) (omega (arith, c .before .sectors .ensures))
 
 mark-of-requires : tie.Need-mark-of-requires
 mark-of-requires c κs = (c .before .before .before .pre, omega (arith, c .before .sectors .ensures))
-
-window-count-requires : tie.Need-window-count-requires
-window-count-requires c κs = search needs
 
 returns-2 : tie.Need-returns-2
 returns-2 c =
@@ -27,4 +21,4 @@ returns-2 c =
 
 pub is-portal-spec : {M : Type 1} → statement M
 is-portal-spec =
-    tie.close (tie.spec sectors-requires returns mark-of-requires window-count-requires returns-2)
+    tie.close (tie.spec (λ c κs. search needs) returns mark-of-requires (λ c κs. search needs) returns-2)

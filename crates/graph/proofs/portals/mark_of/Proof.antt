@@ -6,9 +6,6 @@ use borrow.Author.Needs.{needs}
 use Rattle.graph.proofs.portals.mark_of.Statement.{statement}
 use Rattle.graph.proofs.portals.mark_of.Tie as tie
 
-mark-in-requires : tie.Need-mark-in-requires
-mark-in-requires c κs = search (needs, accepted-of, room-of)
-
 returns : tie.Need-returns
 returns c =
     let start = c .before .before in
@@ -16,4 +13,4 @@ returns c =
     (is, omega (arith, is, mark-low (start .pre .0) (start .args .p)))
 
 pub mark-of-spec : {M : Type 1} → statement M
-mark-of-spec = tie.close (tie.spec mark-in-requires returns)
+mark-of-spec = tie.close (tie.spec (λ c κs. search (needs, accepted-of, room-of)) returns)

@@ -17,20 +17,11 @@ use Rattle.graph.proofs.portals.midpoint.Tie as tie
 same : (n j : ℕ) {side other : Side} {a b : ℕ} → side ≡ other → a ≡ firstPlace n j → b ≡ lastPlace n j → border side ((a + b) / 2) ≡ border other ((firstPlace n j + lastPlace n j) / 2)
 same n j e p q = rw (e, p, q)
 
-portal-run-requires : tie.Need-portal-run-requires
-portal-run-requires c κs = search needs
-
-portal-side-requires : tie.Need-portal-side-requires
-portal-side-requires c κs = search needs
-
 add-border-index : tie.Need-add-border-index
 add-border-index c = omega arith
 
 border-index-requires : tie.Need-border-index-requires
 border-index-requires c κs = omega arith
-
-wide-requires : tie.Need-wide-requires
-wide-requires c κs = search needs
 
 returns : tie.Need-returns
 unfolding midpoint crossing
@@ -47,9 +38,9 @@ pub midpoint-spec : {M : Type 1} → statement M
 midpoint-spec =
     tie.close
     (tie.spec
-    portal-run-requires
-    portal-side-requires
+    (λ c κs. search needs)
+    (λ c κs. search needs)
     add-border-index
     border-index-requires
-    wide-requires
+    (λ c κs. search needs)
     returns)

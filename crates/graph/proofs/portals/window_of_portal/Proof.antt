@@ -12,9 +12,6 @@ use Rattle.graph.specs.Reading.{portal-sector}
 use Rattle.graph.proofs.portals.window_of_portal.Statement.{statement}
 use Rattle.graph.proofs.portals.window_of_portal.Tie as tie
 
-portal-side-requires : tie.Need-portal-side-requires
-portal-side-requires c κs = search needs
-
 mark-of-requires : tie.Need-mark-of-requires
 mark-of-requires c κs = let start = c .before .before in (start .pre .0, portal-sector (start .pre .0) (start .args .p) (start .pre .1))
 
@@ -30,4 +27,4 @@ returns c =
 
 pub window-of-portal-spec : {M : Type 1} → statement M
 window-of-portal-spec =
-    tie.close (tie.spec portal-side-requires mark-of-requires window-of-requires returns)
+    tie.close (tie.spec (λ c κs. search needs) mark-of-requires window-of-requires returns)

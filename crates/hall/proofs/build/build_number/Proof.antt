@@ -5,29 +5,17 @@ use borrow.Author.Needs.{needs}
 use Rattle.hall.proofs.build.build_number.Statement.{statement}
 use Rattle.hall.proofs.build.build_number.Tie as tie
 
-bad-sectors-requires : tie.Need-bad-sectors-requires
-bad-sectors-requires c κs = search needs
-
 returns : tie.Need-returns
 unfolding buildNumber
 returns c = search (needs, ladder) depth 20
-
-bad-scale-requires : tie.Need-bad-scale-requires
-bad-scale-requires c κs = search needs
 
 returns-2 : tie.Need-returns-2
 unfolding buildNumber
 returns-2 c = search (needs, ladder) depth 20
 
-wrong-size-requires : tie.Need-wrong-size-requires
-wrong-size-requires c κs = search needs
-
 returns-3 : tie.Need-returns-3
 unfolding buildNumber
 returns-3 c = search (needs, ladder) depth 20
-
-too-short-requires : tie.Need-too-short-requires
-too-short-requires c κs = search needs
 
 returns-4 : tie.Need-returns-4
 unfolding buildNumber
@@ -41,12 +29,12 @@ pub build-number-spec : {M : Type 1} → statement M
 build-number-spec =
     tie.close
     (tie.spec
-    bad-sectors-requires
+    (λ c κs. search needs)
     returns
-    bad-scale-requires
+    (λ c κs. search needs)
     returns-2
-    wrong-size-requires
+    (λ c κs. search needs)
     returns-3
-    too-short-requires
+    (λ c κs. search needs)
     returns-4
     returns-5)

@@ -13,32 +13,17 @@ returns : tie.Need-returns
 unfolding checkNumber
 returns c = search (needs, refuse-here, lt-ltb)
 
-measures-at-requires : tie.Need-measures-at-requires
-measures-at-requires c κs = search needs
-
-bad-sectors-requires : tie.Need-bad-sectors-requires
-bad-sectors-requires c κs = search needs
-
 returns-2 : tie.Need-returns-2
 unfolding checkNumber
 returns-2 c = search (needs, refuse-here, refuse-past, le-ltb, sectors-found) depth 20
-
-bad-scale-requires : tie.Need-bad-scale-requires
-bad-scale-requires c κs = search needs
 
 returns-3 : tie.Need-returns-3
 unfolding checkNumber
 returns-3 c = search (needs, refuse-here, refuse-past, le-ltb, sectors-found, scale-found) depth 20
 
-fourth-byte-requires : tie.Need-fourth-byte-requires
-fourth-byte-requires c κs = search needs
-
 returns-4 : tie.Need-returns-4
 unfolding checkNumber
 returns-4 c = search (needs, refuse-here, refuse-past, le-ltb, sectors-found, scale-found, fourth-bad) depth 20
-
-too-short-requires : tie.Need-too-short-requires
-too-short-requires c κs = search needs
 
 returns-5 : tie.Need-returns-5
 unfolding checkNumber
@@ -65,14 +50,14 @@ check-store-spec =
     tie.close
     (tie.spec
     returns
-    measures-at-requires
-    bad-sectors-requires
+    (λ c κs. search needs)
+    (λ c κs. search needs)
     returns-2
-    bad-scale-requires
+    (λ c κs. search needs)
     returns-3
-    fourth-byte-requires
+    (λ c κs. search needs)
     returns-4
-    too-short-requires
+    (λ c κs. search needs)
     returns-5
     any-bad-mark-requires
     returns-6

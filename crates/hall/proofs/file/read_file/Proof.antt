@@ -6,23 +6,14 @@ use borrow.Author.Needs.{needs}
 use Rattle.hall.proofs.file.read_file.Statement.{statement}
 use Rattle.hall.proofs.file.read_file.Tie as tie
 
-read-number-requires : tie.Need-read-number-requires
-read-number-requires c κs = search needs
-
 returns : tie.Need-returns
 returns c = read-refused _ _ _ (c .before .read-number .ensures) (c .if1 .taken)
-
-fill-from-requires : tie.Need-fill-from-requires
-fill-from-requires c κs = search (needs, read-on)
 
 measures-at-requires : tie.Need-measures-at-requires
 measures-at-requires c κs =
     let f = c .before .before .before .before in
     let args = f .before .before .before .before .args in
     omega (arith, read-on (now (args .file)) (now (args .base)) _ (f .before .read-number .ensures) (f .if1 .left) .head)
-
-same-length : tie.Need-same-length
-same-length c = search needs
 
 returns-2 : tie.Need-returns-2
 returns-2 c =
@@ -34,9 +25,9 @@ pub read-file-spec : {M : Type 1} → statement M
 read-file-spec =
     tie.close
     (tie.spec
-    read-number-requires
+    (λ c κs. search needs)
     returns
-    fill-from-requires
+    (λ c κs. search (needs, read-on))
     measures-at-requires
-    same-length
+    (λ c. search needs)
     returns-2)

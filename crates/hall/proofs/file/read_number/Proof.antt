@@ -11,32 +11,17 @@ returns : tie.Need-returns
 unfolding readNumber
 returns c = search (needs, refuse-here, lt-ltb)
 
-measures-at-requires : tie.Need-measures-at-requires
-measures-at-requires c κs = search needs
-
-bad-sectors-requires : tie.Need-bad-sectors-requires
-bad-sectors-requires c κs = search needs
-
 returns-2 : tie.Need-returns-2
 unfolding readNumber
 returns-2 c = search (needs, refuse-here, refuse-past, le-ltb, sectors-found) depth 20
-
-bad-scale-requires : tie.Need-bad-scale-requires
-bad-scale-requires c κs = search needs
 
 returns-3 : tie.Need-returns-3
 unfolding readNumber
 returns-3 c = search (needs, refuse-here, refuse-past, le-ltb, sectors-found, scale-found) depth 20
 
-too-many-requires : tie.Need-too-many-requires
-too-many-requires c κs = search needs
-
 returns-4 : tie.Need-returns-4
 unfolding readNumber
 returns-4 c = search (needs, refuse-here, refuse-past, le-ltb, sectors-found, scale-found, flag) depth 20
-
-wrong-length-requires : tie.Need-wrong-length-requires
-wrong-length-requires c κs = search needs
 
 returns-5 : tie.Need-returns-5
 unfolding readNumber
@@ -48,9 +33,6 @@ any-off-requires c κs = whole-file _ _ (c .before .wrong-length .ensures) (c .i
 returns-6 : tie.Need-returns-6
 unfolding readNumber
 returns-6 c = search (needs, refuse-here, refuse-past, le-ltb, sectors-found, scale-found, flag) depth 20
-
-wrong-size-requires : tie.Need-wrong-size-requires
-wrong-size-requires c κs = search needs
 
 returns-7 : tie.Need-returns-7
 unfolding readNumber
@@ -65,17 +47,17 @@ read-number-spec =
     tie.close
     (tie.spec
     returns
-    measures-at-requires
-    bad-sectors-requires
+    (λ c κs. search needs)
+    (λ c κs. search needs)
     returns-2
-    bad-scale-requires
+    (λ c κs. search needs)
     returns-3
-    too-many-requires
+    (λ c κs. search needs)
     returns-4
-    wrong-length-requires
+    (λ c κs. search needs)
     returns-5
     any-off-requires
     returns-6
-    wrong-size-requires
+    (λ c κs. search needs)
     returns-7
     returns-8)

@@ -8,9 +8,6 @@ use Rattle.hall.proofs.Rungs.{rungs}
 use Rattle.hall.proofs.plan.plan.Statement.{statement}
 use Rattle.hall.proofs.plan.plan.Tie as tie
 
-value-number-requires : tie.Need-value-number-requires
-value-number-requires c κs = search needs
-
 returns : tie.Need-returns
 unfolding planAnswer planNumber measureNumber ofBits
 returns c = plan-answers _ (search (ladder, rungs) depth 9)
@@ -23,9 +20,6 @@ returns-3 : tie.Need-returns-3
 unfolding planAnswer planNumber measureNumber ofBits
 returns-3 c = plan-answers _ (search (ladder, rungs) depth 9)
 
-whole-near-requires : tie.Need-whole-near-requires
-whole-near-requires c κs = search needs
-
 returns-4 : tie.Need-returns-4
 unfolding planAnswer planNumber measureNumber ofBits
 returns-4 c = plan-answers _ (search (ladder, rungs) depth 9)
@@ -33,12 +27,6 @@ returns-4 c = plan-answers _ (search (ladder, rungs) depth 9)
 returns-5 : tie.Need-returns-5
 unfolding planAnswer planNumber measureNumber ofBits
 returns-5 c = plan-answers _ (search (ladder, rungs) depth 9)
-
-whole-near-requires-2 : tie.Need-whole-near-requires-2
-whole-near-requires-2 c κs = search needs
-
-whole-near-requires-3 : tie.Need-whole-near-requires-3
-whole-near-requires-3 c κs = search needs
 
 returns-6 : tie.Need-returns-6
 unfolding planAnswer planNumber measureNumber ofBits
@@ -52,14 +40,14 @@ pub plan-spec : {M : Type 1} → statement M
 plan-spec =
     tie.close
     (tie.spec
-    value-number-requires
+    (λ c κs. search needs)
     returns
     returns-2
     returns-3
-    whole-near-requires
+    (λ c κs. search needs)
     returns-4
     returns-5
-    whole-near-requires-2
-    whole-near-requires-3
+    (λ c κs. search needs)
+    (λ c κs. search needs)
     returns-6
     returns-7)

@@ -6,9 +6,6 @@ use Rattle.model.specs.Calls.{valueNumber}
 use Rattle.hall.proofs.plan.value_number.Statement.{statement}
 use Rattle.hall.proofs.plan.value_number.Tie as tie
 
-not-finite-requires : tie.Need-not-finite-requires
-not-finite-requires c κs = search needs
-
 returns : tie.Need-returns
 unfolding valueNumber ofBits
 returns c = search ladder depth 9
@@ -31,4 +28,4 @@ returns-5 c = search ladder depth 9
 
 pub value-number-spec : {M : Type 1} → statement M
 value-number-spec =
-    tie.close (tie.spec not-finite-requires returns returns-2 returns-3 returns-4 returns-5)
+    tie.close (tie.spec (λ c κs. search needs) returns returns-2 returns-3 returns-4 returns-5)

@@ -5,17 +5,8 @@ use borrow.Author.Needs.{needs}
 use Rattle.hall.proofs.routing.route.Statement.{statement}
 use Rattle.hall.proofs.routing.route.Tie as tie
 
-check-store-requires : tie.Need-check-store-requires
-check-store-requires c κs = search needs
-
 returns : tie.Need-returns
 returns c = refused-store _ _ _ _ (c .before .check-store .ensures) (c .if1 .taken)
-
-measures-at-requires : tie.Need-measures-at-requires
-measures-at-requires c κs = search (needs, passing)
-
-cells-requires : tie.Need-cells-requires
-cells-requires c κs = search needs
 
 returns-2 : tie.Need-returns-2
 returns-2 c =
@@ -28,15 +19,6 @@ returns-3 c =
     let m = n .before in
     refused-24 _ _ _ _ (m .before .before .check-store .ensures) (m .before .if1 .left) (m .measures-at .ensures) (n .cells .ensures) (c .before .if2 .left) (c .if3 .taken)
 
-find-path-requires : tie.Need-find-path-requires
-find-path-requires c κs = search (needs, opened)
-
-steps-of-requires : tie.Need-steps-of-requires
-steps-of-requires c κs = search needs
-
-same-length : tie.Need-same-length
-same-length c = search needs
-
 returns-4 : tie.Need-returns-4
 returns-4 c =
     let t = c .before in
@@ -46,9 +28,6 @@ returns-4 c =
     let m = n .before in
     refused-25 _ _ _ _ (m .before .before .check-store .ensures) (m .before .if1 .left) (m .measures-at .ensures) (n .cells .ensures) (e .before .if2 .left) (e .if3 .left)
     (f .find-path .ensures .0) (f .find-path .ensures .1) (t .steps-of .ensures) (search needs) (c .if4 .taken)
-
-same-length-2 : tie.Need-same-length-2
-same-length-2 c = search needs
 
 returns-5 : tie.Need-returns-5
 returns-5 c =
@@ -64,15 +43,15 @@ pub route-spec : {M : Type 1} → statement M
 route-spec =
     tie.close
     (tie.spec
-    check-store-requires
+    (λ c κs. search needs)
     returns
-    measures-at-requires
-    cells-requires
+    (λ c κs. search (needs, passing))
+    (λ c κs. search needs)
     returns-2
     returns-3
-    find-path-requires
-    steps-of-requires
-    same-length
+    (λ c κs. search (needs, opened))
+    (λ c κs. search needs)
+    (λ c. search needs)
     returns-4
-    same-length-2
+    (λ c. search needs)
     returns-5)

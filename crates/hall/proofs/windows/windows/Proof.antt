@@ -5,28 +5,13 @@ use borrow.Author.Needs.{needs}
 use Rattle.hall.proofs.windows.windows.Statement.{statement}
 use Rattle.hall.proofs.windows.windows.Tie as tie
 
-check-store-requires : tie.Need-check-store-requires
-check-store-requires c κs = search needs
-
 returns : tie.Need-returns
 returns c = refused-store _ _ _ (c .before .check-store .ensures) (c .if1 .taken)
-
-measures-at-requires : tie.Need-measures-at-requires
-measures-at-requires c κs = search (needs, passing)
-
-sectors-requires : tie.Need-sectors-requires
-sectors-requires c κs = search needs
 
 returns-2 : tie.Need-returns-2
 returns-2 c =
     let m = c .before .before in
     refused-26 _ _ _ (m .before .before .check-store .ensures) (m .before .if1 .left) (m .measures-at .ensures) (c .before .sectors .ensures) (c .if2 .taken)
-
-sector-marks-requires : tie.Need-sector-marks-requires
-sector-marks-requires c κs = search (needs, passing)
-
-windows-number-requires : tie.Need-windows-number-requires
-windows-number-requires c κs = search needs
 
 returns-3 : tie.Need-returns-3
 returns-3 c =
@@ -35,15 +20,6 @@ returns-3 c =
     let m = s .before .before in
     refused-27 _ _ _ (m .before .before .check-store .ensures) (m .before .if1 .left) (m .measures-at .ensures) (s .before .sectors .ensures) (s .if2 .left) (n .before .sector-marks .ensures)
     (n .windows-number .ensures) (c .if3 .taken)
-
-sector-windows-requires : tie.Need-sector-windows-requires
-sector-windows-requires c κs = search (needs, listing)
-
-byte-requires : tie.Need-byte-requires
-byte-requires c κs = search (needs, listing)
-
-same-length : tie.Need-same-length
-same-length c = search needs
 
 returns-4 : tie.Need-returns-4
 returns-4 c =
@@ -59,15 +35,15 @@ pub windows-spec : {M : Type 1} → statement M
 windows-spec =
     tie.close
     (tie.spec
-    check-store-requires
+    (λ c κs. search needs)
     returns
-    measures-at-requires
-    sectors-requires
+    (λ c κs. search (needs, passing))
+    (λ c κs. search needs)
     returns-2
-    sector-marks-requires
-    windows-number-requires
+    (λ c κs. search (needs, passing))
+    (λ c κs. search needs)
     returns-3
-    sector-windows-requires
-    byte-requires
-    same-length
+    (λ c κs. search (needs, listing))
+    (λ c κs. search (needs, listing))
+    (λ c. search needs)
     returns-4)

@@ -4,41 +4,11 @@ use borrow.Author.Needs.{needs}
 use Rattle.hallroute.proofs.lines.next_line.Statement.{statement}
 use Rattle.hallroute.proofs.lines.next_line.Tie as tie
 
-sub-if1 : tie.Need-sub-if1
-sub-if1 c = search needs
-
-slice-aggregate-put-text : tie.Need-slice-aggregate-put-text
-slice-aggregate-put-text c = search needs
-
-put-text-requires : tie.Need-put-text-requires
-put-text-requires c κs = search needs
-
-same-length : tie.Need-same-length
-same-length c = search needs
-
 returns : tie.Need-returns
 returns c =
     let put = c .before .before in
     let few = put .before .before .before in
     cut-line _ _ _ (few .before .before .before .before .before .pre .0) (few .if1 .taken) (put .put-text .ensures)
-
-u16-at-requires : tie.Need-u16-at-requires
-u16-at-requires c κs = search needs
-
-add-u16-at : tie.Need-add-u16-at
-add-u16-at c = search needs
-
-u16-at-requires-2 : tie.Need-u16-at-requires-2
-u16-at-requires-2 c κs = search needs
-
-pair-line-requires : tie.Need-pair-line-requires
-pair-line-requires c κs = search needs
-
-same-length-2 : tie.Need-same-length-2
-same-length-2 c = search needs
-
-same-length-3 : tie.Need-same-length-3
-same-length-3 c = search needs
 
 returns-2 : tie.Need-returns-2
 returns-2 c =
@@ -51,15 +21,15 @@ pub next-line-spec : {M : Type 1} → statement M
 next-line-spec =
     tie.close
     (tie.spec
-    sub-if1
-    slice-aggregate-put-text
-    put-text-requires
-    same-length
+    (λ c. search needs)
+    (λ c. search needs)
+    (λ c κs. search needs)
+    (λ c. search needs)
     returns
-    u16-at-requires
-    add-u16-at
-    u16-at-requires-2
-    pair-line-requires
-    same-length-2
-    same-length-3
+    (λ c κs. search needs)
+    (λ c. search needs)
+    (λ c κs. search needs)
+    (λ c κs. search needs)
+    (λ c. search needs)
+    (λ c. search needs)
     returns-2)

@@ -4,18 +4,6 @@ use borrow.Author.Needs.{needs}
 use Rattle.hallroute.proofs.opening.file_size.Statement.{statement}
 use Rattle.hallroute.proofs.opening.file_size.Tie as tie
 
-returns : tie.Need-returns
-returns c = search (needs, size-head)
-
-u16-at-requires : tie.Need-u16-at-requires
-u16-at-requires c κs = search needs
-
-mul-size : tie.Need-mul-size
-mul-size c = search needs
-
-add-size : tie.Need-add-size
-add-size c = search needs
-
 returns-2 : tie.Need-returns-2
 returns-2 c = size-all _ (c .before .u16-at .ensures .0) (c .before .before .if1 .left) (c .if2 .taken)
 
@@ -23,4 +11,4 @@ returns-3 : tie.Need-returns-3
 returns-3 c = size-counted _ (c .before .u16-at .ensures .0) (c .before .before .if1 .left) (c .if2 .left)
 
 pub file-size-spec : {M : Type 1} → statement M
-file-size-spec = tie.close (tie.spec returns u16-at-requires mul-size add-size returns-2 returns-3)
+file-size-spec = tie.close (tie.spec (λ c. search (needs, size-head)) (λ c κs. search needs) (λ c. search needs) (λ c. search needs) returns-2 returns-3)

@@ -9,12 +9,6 @@ use borrow.Author.Needs.{needs}
 use Rattle.moves.proofs.spread.first_word.Statement.{statement}
 use Rattle.moves.proofs.spread.first_word.Tie as tie
 
-spot-of-requires : tie.Need-spot-of-requires
-spot-of-requires c κs = search needs
-
-shl-result : tie.Need-shl-result
-shl-result c = search needs
-
 returns : tie.Need-returns
 unfolding firstWord
 returns c =
@@ -27,4 +21,4 @@ unfolding firstWord
 returns-2 c = rw (ne-eqb (c .before .args .h) (c .before .args .from / 50) (c .if1 .left)) refl
 
 pub first-word-spec : {M : Type 1} → statement M
-first-word-spec = tie.close (tie.spec spot-of-requires shl-result returns returns-2)
+first-word-spec = tie.close (tie.spec (λ c κs. search needs) (λ c. search needs) returns returns-2)

@@ -4,12 +4,6 @@ use borrow.Author.Needs.{needs}
 use Rattle.moves.proofs.spread.moves_at.Statement.{statement}
 use Rattle.moves.proofs.spread.moves_at.Tie as tie
 
-lacking-requires : tie.Need-lacking-requires
-lacking-requires c κs = search needs
-
-cast-result : tie.Need-cast-result
-cast-result c = search needs
-
 returns : tie.Need-returns
 returns c = told-some _ _ _ (c .before .before .before .pre .2) (c .before .lacking .ensures) (c .if1 .taken)
 
@@ -17,4 +11,4 @@ returns-2 : tie.Need-returns-2
 returns-2 c = told-none _ _ _ (c .before .before .before .pre .2) (c .before .lacking .ensures) (c .if1 .left)
 
 pub moves-at-spec : {M : Type 1} → statement M
-moves-at-spec = tie.close (tie.spec lacking-requires cast-result returns returns-2)
+moves-at-spec = tie.close (tie.spec (λ c κs. search needs) (λ c. search needs) returns returns-2)

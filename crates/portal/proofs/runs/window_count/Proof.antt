@@ -4,11 +4,5 @@ use Rattle.portal.proofs.AllMarks.{few-ones, ones-fit, count-is}
 use Rattle.portal.proofs.runs.window_count.Statement.{statement}
 use Rattle.portal.proofs.runs.window_count.Tie as tie
 
-cast-result : tie.Need-cast-result
-cast-result c = search (needs, ones-fit)
-
-returns : tie.Need-returns
-returns c = search (needs, few-ones, count-is)
-
 pub window-count-spec : {M : Type 1} → statement M
-window-count-spec = tie.close (tie.spec cast-result returns)
+window-count-spec = tie.close (tie.spec (λ c. search (needs, ones-fit)) (λ c. search (needs, few-ones, count-is)))

@@ -7,17 +7,8 @@ use Rattle.portal.proofs.Entries.{set-three}
 use Rattle.portal.proofs.windows.put_window.Statement.{statement}
 use Rattle.portal.proofs.windows.put_window.Tie as tie
 
-slice-write-list : tie.Need-slice-write-list
-slice-write-list c = search needs
-
 slice-write-list-2 : tie.Need-slice-write-list-2
 slice-write-list-2 c = simp length-set (omega arith)
-
-slice-write-list-3 : tie.Need-slice-write-list-3
-slice-write-list-3 c = search needs
-
-same-length : tie.Need-same-length
-same-length c = search needs
 
 returns : tie.Need-returns
 unfolding flatWindows
@@ -25,4 +16,4 @@ returns c = search (needs, set-three)
 
 pub put-window-spec : {M : Type 1} → statement M
 put-window-spec =
-    tie.close (tie.spec slice-write-list slice-write-list-2 slice-write-list-3 same-length returns)
+    tie.close (tie.spec (λ c. search needs) slice-write-list-2 (λ c. search needs) (λ c. search needs) returns)

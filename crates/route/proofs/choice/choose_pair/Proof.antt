@@ -32,18 +32,6 @@ zero-at c l = getD-replicate {A = ℕ} 20 c 0 0 l
 keys-long : (c : tie.After-keys-to-goal) → length (c .keys-to-goal .last .1 .1 .1 .1 .0) ≡ sectors (S c .args .m) * 20
 keys-long c = c .keys-to-goal .kept .1 .1 .1 .1 .0 ∙ S c .pre .0 .0 .graph .numbers
 
-keys-to-goal-requires : tie.Need-keys-to-goal-requires
-keys-to-goal-requires c κs = search needs
-
-slice-aggregate-first-place : tie.Need-slice-aggregate-first-place
-slice-aggregate-first-place c = search needs
-
-first-place-requires : tie.Need-first-place-requires
-first-place-requires c κs = search needs
-
-same-length : tie.Need-same-length
-same-length c = search needs
-
 returns : tie.Need-returns
 returns c =
     let g = G (c .before) in
@@ -52,29 +40,14 @@ returns c =
     no-start (given .0 .graph .sound) (s .pre .1) (s .args .p) (s .args .q) (given .1) (given .2) (now (s .args .legs)) (now (s .args .lasts)) (replicate 20 0) zero-at
     (g .keys-to-goal .last .1 .1 .1 .1 .0) (g .keys-to-goal .ensures) (c .before .first-place .ensures) (c .if1 .taken)
 
-add-keys-to : tie.Need-add-keys-to
-add-keys-to c = search needs
-
 keys-to-requires : tie.Need-keys-to-requires
 keys-to-requires c κs =
     let g = G (c .before .before) in
     let given = S g .pre in
     ((searched-in (given .0 .0) (keys-long g) (given .0 .0 .graph .room), omega (arith, given .0 .1, c .before .if1 .left)), given .1)
 
-slice-aggregate-first-place-2 : tie.Need-slice-aggregate-first-place-2
-slice-aggregate-first-place-2 c = search needs
-
-first-place-requires-2 : tie.Need-first-place-requires-2
-first-place-requires-2 c κs = search needs
-
-mul-result : tie.Need-mul-result
-mul-result c = search needs
-
 add-result : tie.Need-add-result
 add-result c = omega (arith, E (T c) .if1 .left, foremost-within (c .first-place2 .ensures))
-
-same-length-2 : tie.Need-same-length-2
-same-length-2 c = search needs
 
 returns-2 : tie.Need-returns-2
 returns-2 c =
@@ -90,16 +63,16 @@ pub choose-pair-spec : {M : Type 1} → statement M
 choose-pair-spec =
     tie.close
     (tie.spec
-    keys-to-goal-requires
-    slice-aggregate-first-place
-    first-place-requires
-    same-length
+    (λ c κs. search needs)
+    (λ c. search needs)
+    (λ c κs. search needs)
+    (λ c. search needs)
     returns
-    add-keys-to
+    (λ c. search needs)
     keys-to-requires
-    slice-aggregate-first-place-2
-    first-place-requires-2
-    mul-result
+    (λ c. search needs)
+    (λ c κs. search needs)
+    (λ c. search needs)
     add-result
-    same-length-2
+    (λ c. search needs)
     returns-2)

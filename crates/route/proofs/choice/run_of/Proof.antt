@@ -14,11 +14,8 @@ returns-2 c = no-last _ _ _ (omega arith)
 returns-3 : tie.Need-returns-3
 returns-3 c = no-path _ _ _ (c .if3 .taken)
 
-add-result : tie.Need-add-result
-add-result c = search needs
-
 returns-4 : tie.Need-returns-4
 returns-4 c = some-run _ _ _ (omega arith) (omega arith) (omega arith)
 
 pub run-of-spec : {M : Type 1} → statement M
-run-of-spec = tie.close (tie.spec returns returns-2 returns-3 add-result returns-4)
+run-of-spec = tie.close (tie.spec returns returns-2 returns-3 (λ c. search needs) returns-4)

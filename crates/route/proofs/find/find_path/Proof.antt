@@ -10,15 +10,6 @@ use borrow.Author.Needs.{needs}
 use Rattle.route.proofs.find.find_path.Statement.{statement}
 use Rattle.route.proofs.find.find_path.Tie as tie
 
-moves-to-requires : tie.Need-moves-to-requires
-moves-to-requires c κs = search needs
-
-through-portals-requires : tie.Need-through-portals-requires
-through-portals-requires c κs = search needs
-
-same-length : tie.Need-same-length
-same-length c = search needs
-
 returns : tie.Need-returns
 returns c =
     let call = c .before .before .through-portals in
@@ -28,9 +19,6 @@ returns c =
 
 one-step-requires : tie.Need-one-step-requires
 one-step-requires c κs = let start = c .before .before .before .before .before in let few = accepted-of (start .pre .0) in (few .some-rows, few .few-sectors, start .pre .2)
-
-same-length-2 : tie.Need-same-length-2
-same-length-2 c = search needs
 
 returns-2 : tie.Need-returns-2
 returns-2 c =
@@ -44,10 +32,10 @@ pub find-path-spec : {M : Type 1} → statement M
 find-path-spec =
     tie.close
     (tie.spec
-    moves-to-requires
-    through-portals-requires
-    same-length
+    (λ c κs. search needs)
+    (λ c κs. search needs)
+    (λ c. search needs)
     returns
     one-step-requires
-    same-length-2
+    (λ c. search needs)
     returns-2)

@@ -10,15 +10,9 @@ use Rattle.route.proofs.find.one_step.Tie as tie
 returns : tie.Need-returns
 returns c = no-room _ _ _ _ refl (c .if1 .taken)
 
-write-last-requires : tie.Need-write-last-requires
-write-last-requires c κs = search needs
-
-same-length : tie.Need-same-length
-same-length c = search needs
-
 returns-2 : tie.Need-returns-2
 unfolding flatSteps
 returns-2 c = written-steps _ _ _ _ refl (omega (arith, c .before .before .before .before .if1 .left)) (c .before .before .write-last .ensures)
 
 pub one-step-spec : {M : Type 1} → statement M
-one-step-spec = tie.close (tie.spec returns write-last-requires same-length returns-2)
+one-step-spec = tie.close (tie.spec returns (λ c κs. search needs) (λ c. search needs) returns-2)

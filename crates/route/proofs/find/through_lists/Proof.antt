@@ -69,33 +69,6 @@ found-is c l =
     pair-found (hall s) (fits-of (s .pre .0)) (s .args .source) (s .args .goal) (chosen c l)
     ∙ same-route (hall s) (s .args .goal) (sectorOf (s .args .source) * 20 + k / 20) (sectorOf (s .args .goal) * 20 + k % 20) (k / 20) (k % 20) (sym (legs-are c)) (sym (lasts-are c))
 
-slice-aggregate-portal-moves : tie.Need-slice-aggregate-portal-moves
-slice-aggregate-portal-moves c = search needs
-
-portal-moves-requires : tie.Need-portal-moves-requires
-portal-moves-requires c κs = search needs
-
-slice-aggregate-portal-moves-2 : tie.Need-slice-aggregate-portal-moves-2
-slice-aggregate-portal-moves-2 c = search needs
-
-portal-moves-requires-2 : tie.Need-portal-moves-requires-2
-portal-moves-requires-2 c κs = search needs
-
-fill-edges-requires : tie.Need-fill-edges-requires
-fill-edges-requires c κs = search needs
-
-mul-p : tie.Need-mul-p
-mul-p c = search needs
-
-mul-q : tie.Need-mul-q
-mul-q c = search needs
-
-slice-aggregate-choose-pair : tie.Need-slice-aggregate-choose-pair
-slice-aggregate-choose-pair c = search needs
-
-slice-aggregate-choose-pair-2 : tie.Need-slice-aggregate-choose-pair-2
-slice-aggregate-choose-pair-2 c = search needs
-
 choose-pair-requires : tie.Need-choose-pair-requires
 choose-pair-requires c κs =
     let s = S (E c) in (
@@ -109,29 +82,11 @@ choose-pair-requires c κs =
       searched-both-ways (linked (E c)),
     )
 
-same-length : tie.Need-same-length
-same-length c = search needs
-
-same-length-2 : tie.Need-same-length-2
-same-length-2 c = search needs
-
 returns : tie.Need-returns
 returns c =
     let k = c .before .before .before in
     let s = S (B k) in
     none-found _ _ _ _ (chosen-none (hall s) (s .args .source) (s .args .goal) (fits-of (s .pre .0)) (foremost k) (c .if1 .taken))
-
-array-read-leg : tie.Need-array-read-leg
-array-read-leg c = search needs
-
-array-read-last : tie.Need-array-read-last
-array-read-last c = search needs
-
-add-through-pair : tie.Need-add-through-pair
-add-through-pair c = search needs
-
-add-through-pair-2 : tie.Need-add-through-pair-2
-add-through-pair-2 c = search needs
 
 through-pair-requires : tie.Need-through-pair-requires
 through-pair-requires c κs =
@@ -141,15 +96,6 @@ through-pair-requires c κs =
       record { opened = s .pre .0; filled = B k .fill-edges .ensures; numbers = k .choose-pair .kept .1 .1 .1 .1 .1 .1 .0 ∙ s .pre .4 },
       pair-paired (hall s) (fits-of (s .pre .0)) (s .args .source) (s .args .goal) (chosen k (l .if1 .left)) (omega (arith, s .pre .2, ap sectors (measures-are (s .pre .0)))),
     )
-
-same-length-3 : tie.Need-same-length-3
-same-length-3 c = search needs
-
-same-length-4 : tie.Need-same-length-4
-same-length-4 c = search needs
-
-same-length-5 : tie.Need-same-length-5
-same-length-5 c = search needs
 
 returns-2 : tie.Need-returns-2
 returns-2 c =
@@ -163,25 +109,25 @@ pub through-lists-spec : {M : Type 1} → statement M
 through-lists-spec =
     tie.close
     (tie.spec
-    slice-aggregate-portal-moves
-    portal-moves-requires
-    slice-aggregate-portal-moves-2
-    portal-moves-requires-2
-    fill-edges-requires
-    mul-p
-    mul-q
-    slice-aggregate-choose-pair
-    slice-aggregate-choose-pair-2
+    (λ c. search needs)
+    (λ c κs. search needs)
+    (λ c. search needs)
+    (λ c κs. search needs)
+    (λ c κs. search needs)
+    (λ c. search needs)
+    (λ c. search needs)
+    (λ c. search needs)
+    (λ c. search needs)
     choose-pair-requires
-    same-length
-    same-length-2
+    (λ c. search needs)
+    (λ c. search needs)
     returns
-    array-read-leg
-    array-read-last
-    add-through-pair
-    add-through-pair-2
+    (λ c. search needs)
+    (λ c. search needs)
+    (λ c. search needs)
+    (λ c. search needs)
     through-pair-requires
-    same-length-3
-    same-length-4
-    same-length-5
+    (λ c. search needs)
+    (λ c. search needs)
+    (λ c. search needs)
     returns-2)

@@ -55,17 +55,11 @@ keys-to-requires : tie.Need-keys-to-requires
 keys-to-requires c κs = let start = c .before .before .before .before .before in
     ((searched-of (start .pre .0), omega (arith, start .pre .1 .end, same-sectors start)), searched-both-ways (start .pre .0))
 
-slice-aggregate-least-path : tie.Need-slice-aggregate-least-path
-slice-aggregate-least-path c = search needs
-
 least-path-requires : tie.Need-least-path-requires
 least-path-requires c κs =
     let k = c .before .before .before .before in
     let s = S k in
     ((linked k, start-low s, rw (keys-are k) (s .pre .1 .linked), omega (arith, accepted-of (s .pre .0 .opened) .few-sectors)), (s .args .e, omega (arith, s .pre .1 .end, same-sectors s), keys-are k))
-
-step-count-requires : tie.Need-step-count-requires
-step-count-requires c κs = search needs
 
 cast-t22 : tie.Need-cast-t22
 cast-t22 c = omega (arith, c .step-count .ensures, few-portals (c .before .before))
@@ -79,18 +73,12 @@ slice-read-t26 c = let k = K (c .before .before .before) in omega (arith, start-
 add-t29 : tie.Need-add-t29
 add-t29 c = omega (arith, key-low (K (c .before .before .before)))
 
-same-length : tie.Need-same-length
-same-length c = search needs
-
 returns : tie.Need-returns
 returns c =
     let counted = c .before .before in
     let l = counted .before .before in
     let s = S (K l) in
     pair-no-room _ (fits s) (s .pre .1) _ _ _ (keys-are (K l)) (l .least-path .ensures .0) (l .least-path .ensures .1) _ _ _ _ (counted .step-count .ensures) (c .if1 .taken)
-
-slice-aggregate-write-steps : tie.Need-slice-aggregate-write-steps
-slice-aggregate-write-steps c = search needs
 
 write-steps-requires : tie.Need-write-steps-requires
 write-steps-requires c κs =
@@ -103,12 +91,6 @@ write-steps-requires c κs =
       taken-path _ (fits s) (s .pre .1) _ _ _ (keys-are (K l)) (l .least-path .ensures .0) (l .least-path .ensures .1),
       omega (arith, counted .step-count .ensures, room .if1 .left),
     )
-
-same-length-2 : tie.Need-same-length-2
-same-length-2 c = search needs
-
-same-length-3 : tie.Need-same-length-3
-same-length-3 c = search needs
 
 returns-2 : tie.Need-returns-2
 returns-2 c =
@@ -124,17 +106,17 @@ through-pair-spec =
     tie.close
     (tie.spec
     keys-to-requires
-    slice-aggregate-least-path
+    (λ c. search needs)
     least-path-requires
-    step-count-requires
+    (λ c κs. search needs)
     cast-t22
     mul-t24
     slice-read-t26
     add-t29
-    same-length
+    (λ c. search needs)
     returns
-    slice-aggregate-write-steps
+    (λ c. search needs)
     write-steps-requires
-    same-length-2
-    same-length-3
+    (λ c. search needs)
+    (λ c. search needs)
     returns-2)

@@ -7,35 +7,17 @@ use borrow.Author.Needs.{needs}
 use Rattle.route.proofs.find.through_portals.Statement.{statement}
 use Rattle.route.proofs.find.through_portals.Tie as tie
 
-table-room-requires : tie.Need-table-room-requires
-table-room-requires c κs = search needs
-
-key-room-requires : tie.Need-key-room-requires
-key-room-requires c κs = search needs
-
-sectors-requires : tie.Need-sectors-requires
-sectors-requires c κs = search needs
-
 low : (c : tie.After-sectors) → c .sectors .result ≤ 100
 low c = omega (arith, c .sectors .ensures, accepted-of (c .before .before .before .before .before .pre .0) .few-sectors)
 
 mul-arcs : tie.Need-mul-arcs
 mul-arcs c = omega (arith, low c)
 
-sectors-requires-2 : tie.Need-sectors-requires-2
-sectors-requires-2 c κs = search needs
-
 mul-numbers : tie.Need-mul-numbers
 mul-numbers c = omega (arith, c .sectors2 .ensures, c .before .sectors .ensures, low (c .before))
 
-array-borrow-prefix-table : tie.Need-array-borrow-prefix-table
-array-borrow-prefix-table c = search (needs, low (c .before))
-
 slice-aggregate-through-lists : tie.Need-slice-aggregate-through-lists
 slice-aggregate-through-lists c = simp length-take (omega (arith, low (c .before .before)))
-
-array-borrow-prefix-keys : tie.Need-array-borrow-prefix-keys
-array-borrow-prefix-keys c = search (needs, low (c .before .before))
 
 slice-aggregate-through-lists-2 : tie.Need-slice-aggregate-through-lists-2
 slice-aggregate-through-lists-2 c = simp length-take (omega (arith, low (c .before .before .before)))
@@ -50,26 +32,20 @@ through-lists-requires c κs =
       simp length-take (omega (arith, c .before .before .before .sectors2 .ensures, c .before .before .before .before .sectors .ensures, low (c .before .before .before .before))),
     )
 
-same-length : tie.Need-same-length
-same-length c = search needs
-
-returns : tie.Need-returns
-returns c = search needs
-
 pub through-portals-spec : {M : Type 1} → statement M
 through-portals-spec =
     tie.close
     (tie.spec
-    table-room-requires
-    key-room-requires
-    sectors-requires
+    (λ c κs. search needs)
+    (λ c κs. search needs)
+    (λ c κs. search needs)
     mul-arcs
-    sectors-requires-2
+    (λ c κs. search needs)
     mul-numbers
-    array-borrow-prefix-table
+    (λ c. search (needs, low (c .before)))
     slice-aggregate-through-lists
-    array-borrow-prefix-keys
+    (λ c. search (needs, low (c .before .before)))
     slice-aggregate-through-lists-2
     through-lists-requires
-    same-length
-    returns)
+    (λ c. search needs)
+    (λ c. search needs))

@@ -8,9 +8,6 @@ use denote.Ref.{now}
 use Rattle.route.proofs.steps.put_step.Statement.{statement}
 use Rattle.route.proofs.steps.put_step.Tie as tie
 
-slice-write-list : tie.Need-slice-write-list
-slice-write-list c = search needs
-
 slice-write-list-2 : tie.Need-slice-write-list-2
 slice-write-list-2 c = simp length-set (omega arith)
 
@@ -23,12 +20,6 @@ slice-write-list-4 c = simp length-set (omega arith)
 slice-write-list-5 : tie.Need-slice-write-list-5
 slice-write-list-5 c = simp length-set (omega arith)
 
-slice-write-list-6 : tie.Need-slice-write-list-6
-slice-write-list-6 c = search needs
-
-same-length : tie.Need-same-length
-same-length c = search needs
-
 returns : tie.Need-returns
 returns c =
     let s = c .args .step in
@@ -38,11 +29,11 @@ pub put-step-spec : {M : Type 1} → statement M
 put-step-spec =
     tie.close
     (tie.spec
-    slice-write-list
+    (λ c. search needs)
     slice-write-list-2
     slice-write-list-3
     slice-write-list-4
     slice-write-list-5
-    slice-write-list-6
-    same-length
+    (λ c. search needs)
+    (λ c. search needs)
     returns)

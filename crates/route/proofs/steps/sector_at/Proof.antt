@@ -7,17 +7,8 @@ use Prim.Native.Nat.{ℕ, _/_, _%_}
 use Rattle.route.proofs.steps.sector_at.Statement.{statement}
 use Rattle.route.proofs.steps.sector_at.Tie as tie
 
-wide-requires : tie.Need-wide-requires
-wide-requires c κs = search needs
-
-div-byte : tie.Need-div-byte
-div-byte c = search needs
-
 byte-requires : tie.Need-byte-requires
 byte-requires c κs = omega (arith, c .before .pre .1, div-le-self (c .before .args .s) (c .wide .result))
-
-rem-byte : tie.Need-rem-byte
-rem-byte c = search needs
 
 byte-requires-2 : tie.Need-byte-requires-2
 byte-requires-2 c κs = omega (arith, c .before .before .pre .1, mod-le (c .before .before .args .s) (c .before .wide .result))
@@ -32,4 +23,4 @@ returns c =
 
 pub sector-at-spec : {M : Type 1} → statement M
 sector-at-spec =
-    tie.close (tie.spec wide-requires div-byte byte-requires rem-byte byte-requires-2 returns)
+    tie.close (tie.spec (λ c κs. search needs) (λ c. search needs) byte-requires (λ c. search needs) byte-requires-2 returns)

@@ -29,15 +29,6 @@ sector-at-requires c κs =
     let few = accepted-of (start .pre .0) in
     (few .some-rows, omega (arith, portal-sector (start .pre .0) (start .args .p) (start .pre .1), few .few-sectors))
 
-midpoint-requires : tie.Need-midpoint-requires
-midpoint-requires c κs = search needs
-
-window-of-portal-requires : tie.Need-window-of-portal-requires
-window-of-portal-requires c κs = search needs
-
-byte-requires : tie.Need-byte-requires
-byte-requires c κs = search needs
-
 returns : tie.Need-returns
 returns c =
     let window = c .before in
@@ -52,7 +43,7 @@ step-at-spec =
     tie.close
     (tie.spec
     sector-at-requires
-    midpoint-requires
-    window-of-portal-requires
-    byte-requires
+    (λ c κs. search needs)
+    (λ c κs. search needs)
+    (λ c κs. search needs)
     returns)

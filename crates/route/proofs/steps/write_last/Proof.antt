@@ -10,18 +10,6 @@ use Rattle.model.specs.Steps.{lastStep, stepBytes}
 use Rattle.route.proofs.steps.write_last.Statement.{statement}
 use Rattle.route.proofs.steps.write_last.Tie as tie
 
-sector-at-requires : tie.Need-sector-at-requires
-sector-at-requires c κs = search needs
-
-byte-requires : tie.Need-byte-requires
-byte-requires c κs = search needs
-
-put-step-requires : tie.Need-put-step-requires
-put-step-requires c κs = search needs
-
-same-length : tie.Need-same-length
-same-length c = search needs
-
 returns : tie.Need-returns
 returns c =
     let put = c .before .before in
@@ -32,4 +20,4 @@ returns c =
 
 pub write-last-spec : {M : Type 1} → statement M
 write-last-spec =
-    tie.close (tie.spec sector-at-requires byte-requires put-step-requires same-length returns)
+    tie.close (tie.spec (λ c κs. search needs) (λ c κs. search needs) (λ c κs. search needs) (λ c. search needs) returns)

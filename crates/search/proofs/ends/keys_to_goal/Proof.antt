@@ -15,14 +15,8 @@ S c = c .before .before .before .before
 low : (c : tie.After-search-ends-arg) → length (now (S c .args .keys)) ≤ 2000
 low c = omega (arith, S c .pre .0 .0 .graph .numbers, S c .pre .0 .0 .few)
 
-array-borrow-prefix-wait : tie.Need-array-borrow-prefix-wait
-array-borrow-prefix-wait c = search (needs, low c)
-
 slice-aggregate-search-ends : tie.Need-slice-aggregate-search-ends
 slice-aggregate-search-ends c = simp length-take (omega (arith, low (c .before)))
-
-slice-aggregate-search-ends-2 : tie.Need-slice-aggregate-search-ends-2
-slice-aggregate-search-ends-2 c = search needs
 
 search-ends-requires : tie.Need-search-ends-requires
 search-ends-requires c κs =
@@ -37,19 +31,13 @@ search-ends-requires c κs =
       given .1,
     )
 
-same-length : tie.Need-same-length
-same-length c = search needs
-
-returns : tie.Need-returns
-returns c = search needs
-
 pub keys-to-goal-spec : {M : Type 1} → statement M
 keys-to-goal-spec =
     tie.close
     (tie.spec
-    array-borrow-prefix-wait
+    (λ c. search (needs, low c))
     slice-aggregate-search-ends
-    slice-aggregate-search-ends-2
+    (λ c. search needs)
     search-ends-requires
-    same-length
-    returns)
+    (λ c. search needs)
+    (λ c. search needs))

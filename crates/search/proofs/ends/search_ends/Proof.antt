@@ -38,12 +38,6 @@ keys-long c = c .offer-ends .kept .1 .1 .0 ∙ K (W c) .fill-keys .kept .0 ∙ S
 wait-long : (c : tie.After-offer-ends) → length (c .offer-ends .last .1 .1 .1 .0) ≡ sectors (S (K (W c)) .args .m) * 20
 wait-long c = c .offer-ends .kept .1 .1 .1 .0 ∙ W c .fill-wait .kept .0 ∙ S (K (W c)) .pre .0 .1
 
-fill-keys-requires : tie.Need-fill-keys-requires
-fill-keys-requires c κs = search needs
-
-fill-wait-requires : tie.Need-fill-wait-requires
-fill-wait-requires c κs = search needs
-
 offer-ends-requires : tie.Need-offer-ends-requires
 offer-ends-requires c κs =
     let w = c .before .before .before .before in
@@ -62,15 +56,6 @@ settle-requires c κs =
     let o = O call in
     let given = S (K (W o)) .pre .0 in
     (searched-in (given .0) (keys-long o) (omega (arith, wait-long o)), omega (arith, call .collect .kept .1 .1 .0, keys-long o, given .0 .few, given .4), call .collect .ensures)
-
-same-length : tie.Need-same-length
-same-length c = search needs
-
-same-length-2 : tie.Need-same-length-2
-same-length-2 c = search needs
-
-same-length-3 : tie.Need-same-length-3
-same-length-3 c = search needs
 
 returns : tie.Need-returns
 returns c =
@@ -101,12 +86,12 @@ pub search-ends-spec : {M : Type 1} → statement M
 search-ends-spec =
     tie.close
     (tie.spec
-    fill-keys-requires
-    fill-wait-requires
+    (λ c κs. search needs)
+    (λ c κs. search needs)
     offer-ends-requires
     collect-requires
     settle-requires
-    same-length
-    same-length-2
-    same-length-3
+    (λ c. search needs)
+    (λ c. search needs)
+    (λ c. search needs)
     returns)

@@ -28,12 +28,6 @@ less : (c : tie.After-slice-known6) → getD (now (S (N c) .args .keys)) (S (N c
     (N c .head-of .result) 0
 less c = omega arith
 
-mul-w : tie.Need-mul-w
-mul-w c = search needs
-
-shared-slice-read-w : tie.Need-shared-slice-read-w
-shared-slice-read-w c = search needs
-
 returns : tie.Need-returns
 returns c =
     let start = c .before .before .before .before .before .before in
@@ -54,15 +48,6 @@ returns-2 c = let n = c .before .before in (
   declines (S n .args .m) (now (S n .args .table)) (now (S n .args .keys)) (now (S n .args .wait)) (S n .args .a) (S n .args .u) (S n .pre .2)
       (n .head-of .result) (n .head-of .ensures) (omega arith),
 )
-
-mul-key : tie.Need-mul-key
-mul-key c = search needs
-
-slice-read-key : tie.Need-slice-read-key
-slice-read-key c = search needs
-
-sub-if3 : tie.Need-sub-if3
-sub-if3 c = search needs
 
 returns-3 : tie.Need-returns-3
 returns-3 c = let n = c .before .before .before .before in (
@@ -86,12 +71,6 @@ slice-write-keys c = omega (arith, in-v (N c), S (N c) .pre .0 .graph .numbers)
 slice-write-wait : tie.Need-slice-write-wait
 slice-write-wait c = omega (arith, in-v (N c), S (N c) .pre .0 .graph .room)
 
-same-length : tie.Need-same-length
-same-length c = search needs
-
-same-length-2 : tie.Need-same-length-2
-same-length-2 c = search needs
-
 returns-4 : tie.Need-returns-4
 returns-4 c = let n = N (c .before) in (
   S n .pre .3,
@@ -101,15 +80,6 @@ returns-4 c = let n = N (c .before) in (
 
 push-requires : tie.Need-push-requires
 push-requires c κs = let n = N (c .before .before) in (S n .pre .3, omega (arith, in-v n, S n .pre .0 .few))
-
-same-length-3 : tie.Need-same-length-3
-same-length-3 c = search needs
-
-same-length-4 : tie.Need-same-length-4
-same-length-4 c = search needs
-
-same-length-5 : tie.Need-same-length-5
-same-length-5 c = search needs
 
 returns-5 : tie.Need-returns-5
 returns-5 c =
@@ -125,27 +95,27 @@ pub offer-spec : {M : Type 1} → statement M
 offer-spec =
     tie.close
     (tie.spec
-    mul-w
-    shared-slice-read-w
+    (λ c. search needs)
+    (λ c. search needs)
     returns
     head-of-requires
     mul-old
     slice-read-old
     returns-2
-    mul-key
-    slice-read-key
-    sub-if3
+    (λ c. search needs)
+    (λ c. search needs)
+    (λ c. search needs)
     returns-3
     slice-read-waited
     add-keys
     mul-keys
     slice-write-keys
     slice-write-wait
-    same-length
-    same-length-2
+    (λ c. search needs)
+    (λ c. search needs)
     returns-4
     push-requires
-    same-length-3
-    same-length-4
-    same-length-5
+    (λ c. search needs)
+    (λ c. search needs)
+    (λ c. search needs)
     returns-5)

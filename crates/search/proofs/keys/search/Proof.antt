@@ -34,15 +34,6 @@ settle-requires c κs =
       lined-alone (now (S (B c) .args .queue)) inside waits (omega (arith, given .2)) (call .ensures .1 .0) (call .ensures .1 .1),
     )
 
-same-length : tie.Need-same-length
-same-length c = search needs
-
-same-length-2 : tie.Need-same-length-2
-same-length-2 c = search needs
-
-same-length-3 : tie.Need-same-length-3
-same-length-3 c = search needs
-
 returns : tie.Need-returns
 returns c =
     let call = c .before .before .before .before .before .before in
@@ -57,4 +48,4 @@ returns c =
 pub search-spec : {M : Type 1} → statement M
 search-spec =
     tie.close
-    (tie.spec begin-requires settle-requires same-length same-length-2 same-length-3 returns)
+    (tie.spec begin-requires settle-requires (λ c. search needs) (λ c. search needs) (λ c. search needs) returns)

@@ -30,28 +30,16 @@ low c = omega (arith, c .before .before .if1 .left, S c .pre .0 .graph .numbers)
 returns : tie.Need-returns
 returns c = (c .before .before .before .before .before .pre .1, (λ g o ext s top w. w, turned-none (λ l _. omega (arith, c .if1 .taken))))
 
-slice-read-if2 : tie.Need-slice-read-if2
-slice-read-if2 c = search needs
-
 returns-2 : tie.Need-returns-2
 returns-2 c = (c .before .before .before .before .before .before .before .pre .1, (λ g o ext s top w. w, turned-none (λ _ l. omega (arith, c .if2 .taken))))
-
-slice-write-wait : tie.Need-slice-write-wait
-slice-write-wait c = search needs
 
 take-turn-requires : tie.Need-take-turn-requires
 take-turn-requires c κs =
     let start = S (c .before .before .before) in
     record { searched = rw (length-set (now (start .args .wait)) (start .args .u) 0) (start .pre .0); low = low (c .before .before .before); room = start .pre .1 }
 
-same-length : tie.Need-same-length
-same-length c = search needs
-
 same-length-2 : tie.Need-same-length-2
 same-length-2 c = let start = S (Asked c) in Call c .take-turn .kept .1 .1 .1 .1 .0 ∙ length-set (now (start .args .wait)) (start .args .u) 0
-
-same-length-3 : tie.Need-same-length-3
-same-length-3 c = search needs
 
 returns-3 : tie.Need-returns-3
 returns-3 c =
@@ -72,11 +60,11 @@ serve-spec =
     tie.close
     (tie.spec
     returns
-    slice-read-if2
+    (λ c. search needs)
     returns-2
-    slice-write-wait
+    (λ c. search needs)
     take-turn-requires
-    same-length
+    (λ c. search needs)
     same-length-2
-    same-length-3
+    (λ c. search needs)
     returns-3)

@@ -7,17 +7,11 @@ use Rattle.search.specs.Following.{better-none, better-some}
 use Rattle.search.proofs.path.better.Statement.{statement}
 use Rattle.search.proofs.path.better.Tie as tie
 
-sectors-requires : tie.Need-sectors-requires
-sectors-requires c κs = search needs
-
 mul-if1 : tie.Need-mul-if1
 mul-if1 c = omega (arith, c .sectors .ensures, accepted-of (c .before .before .pre .0) .few-sectors)
 
 returns : tie.Need-returns
 returns c = λ table. better-none _ table _ _ _ (omega (arith, c .if1 .taken, c .before .sectors .ensures))
-
-node-rank-requires : tie.Need-node-rank-requires
-node-rank-requires c κs = search needs
 
 node-rank-requires-2 : tie.Need-node-rank-requires-2
 node-rank-requires-2 c κs =
@@ -31,4 +25,4 @@ returns-2 c =
 pub better-spec : {M : Type 1} → statement M
 better-spec =
     tie.close
-    (tie.spec sectors-requires mul-if1 returns node-rank-requires node-rank-requires-2 returns-2)
+    (tie.spec (λ c κs. search needs) mul-if1 returns (λ c κs. search needs) node-rank-requires-2 returns-2)

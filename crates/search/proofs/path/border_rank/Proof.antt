@@ -4,30 +4,6 @@ use borrow.Author.Needs.{needs}
 use Rattle.search.proofs.path.border_rank.Statement.{statement}
 use Rattle.search.proofs.path.border_rank.Tie as tie
 
-enum-told : tie.Need-enum-told
-enum-told c = search needs
-
-mul-result : tie.Need-mul-result
-mul-result c = search needs
-
-enum-told-2 : tie.Need-enum-told-2
-enum-told-2 c = search needs
-
-add-result : tie.Need-add-result
-add-result c = search needs
-
-enum-told-3 : tie.Need-enum-told-3
-enum-told-3 c = search needs
-
-mul-result-2 : tie.Need-mul-result-2
-mul-result-2 c = search needs
-
-add-result-2 : tie.Need-add-result-2
-add-result-2 c = search needs
-
-enum-told-4 : tie.Need-enum-told-4
-enum-told-4 c = search needs
-
 returns : tie.Need-returns
 returns c = rw (c .enum-told .given .1) (omega arith)
 
@@ -44,14 +20,14 @@ pub border-rank-spec : {M : Type 1} → statement M
 border-rank-spec =
     tie.close
     (tie.spec
-    enum-told
-    mul-result
-    enum-told-2
-    add-result
-    enum-told-3
-    mul-result-2
-    add-result-2
-    enum-told-4
+    (λ c. search needs)
+    (λ c. search needs)
+    (λ c. search needs)
+    (λ c. search needs)
+    (λ c. search needs)
+    (λ c. search needs)
+    (λ c. search needs)
+    (λ c. search needs)
     returns
     returns-2
     returns-3

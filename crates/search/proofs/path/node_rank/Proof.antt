@@ -19,12 +19,6 @@ S c = c .before .before .before
 sector : (c : tie.After-border-rank2) → S (c .before .before) .args .p / 20 < 100
 sector c = let start = S (c .before .before) in omega (arith, portal-sector (start .pre .0) (start .args .p) (start .pre .1), accepted-of (start .pre .0) .few-sectors)
 
-portal-side-requires : tie.Need-portal-side-requires
-portal-side-requires c κs = search needs
-
-portal-run-requires : tie.Need-portal-run-requires
-portal-run-requires c κs = search needs
-
 border-rank-requires : tie.Need-border-rank-requires
 border-rank-requires c κs = c .portal-run .ensures .low-first
 
@@ -45,9 +39,6 @@ add-result-2 c = omega (arith, sector c, c .before .border-rank .ensures .1, c .
 
 mul-result-3 : tie.Need-mul-result-3
 mul-result-3 c = omega (arith, sector c, c .before .border-rank .ensures .1, c .border-rank2 .ensures .1)
-
-side-number-requires : tie.Need-side-number-requires
-side-number-requires c κs = search needs
 
 add-result-3 : tie.Need-add-result-3
 add-result-3 c = let at = c .before in omega (
@@ -74,8 +65,8 @@ pub node-rank-spec : {M : Type 1} → statement M
 node-rank-spec =
     tie.close
     (tie.spec
-    portal-side-requires
-    portal-run-requires
+    (λ c κs. search needs)
+    (λ c κs. search needs)
     border-rank-requires
     border-rank-requires-2
     mul-result
@@ -83,6 +74,6 @@ node-rank-spec =
     mul-result-2
     add-result-2
     mul-result-3
-    side-number-requires
+    (λ c κs. search needs)
     add-result-3
     returns)

@@ -11,12 +11,6 @@ use Rattle.sector_cost.proofs.board.corner.Tie as tie
 parts : (c : tie.After-wide) → let s = c .before .args .s in (s % c .wide .result ≤ s) × (s / c .wide .result ≤ s)
 parts c = let s = c .before .args .s in (omega (arith, div-add-mod' s (c .wide .result)), div-le-self s (c .wide .result))
 
-wide-requires : tie.Need-wide-requires
-wide-requires c κs = search needs
-
-rem-result : tie.Need-rem-result
-rem-result c = search needs
-
 mul-result : tie.Need-mul-result
 mul-result c = omega (arith, parts c)
 
@@ -25,9 +19,6 @@ add-result c = omega (arith, parts c)
 
 mul-result-2 : tie.Need-mul-result-2
 mul-result-2 c = omega (arith, parts c)
-
-div-result : tie.Need-div-result
-div-result c = search needs
 
 mul-result-3 : tie.Need-mul-result-3
 mul-result-3 c = omega (arith, parts c)
@@ -46,12 +37,12 @@ pub corner-spec : {M : Type 1} → statement M
 corner-spec =
     tie.close
     (tie.spec
-    wide-requires
-    rem-result
+    (λ c κs. search needs)
+    (λ c. search needs)
     mul-result
     add-result
     mul-result-2
-    div-result
+    (λ c. search needs)
     mul-result-3
     add-result-2
     add-result-3

@@ -20,9 +20,6 @@ fits c =
 few : (c : tie.After-wide) → length (now (start c .args .costs)) ≤ 10000
 few c = omega (arith, start c .pre .0 .long, start c .pre .0 .measures .few-sectors)
 
-wide-requires : tie.Need-wide-requires
-wide-requires c κs = search needs
-
 mul-s : tie.Need-mul-s
 mul-s c = omega (arith, fits c, few c)
 
@@ -32,32 +29,11 @@ add-s c = omega (arith, fits c, few c)
 mul-a : tie.Need-mul-a
 mul-a c = omega (arith, fits c, few c)
 
-mul-a-2 : tie.Need-mul-a-2
-mul-a-2 c = search needs
-
 add-a : tie.Need-add-a
 add-a c = omega (arith, fits c, few c)
 
-add-b : tie.Need-add-b
-add-b c = search needs
-
-mul-b : tie.Need-mul-b
-mul-b c = search needs
-
-add-b-2 : tie.Need-add-b-2
-add-b-2 c = search needs
-
-mul-b-2 : tie.Need-mul-b-2
-mul-b-2 c = search needs
-
-add-b-3 : tie.Need-add-b-3
-add-b-3 c = search needs
-
 copy-part-requires : tie.Need-copy-part-requires
 copy-part-requires c κs = (fits (c .before), omega (arith, start (c .before) .pre .0 .measures .few-columns, start (c .before) .pre .0 .measures .few-rows, start (c .before) .pre .3 .passed .long))
-
-same-length : tie.Need-same-length
-same-length c = search needs
 
 returns : tie.Need-returns
 returns c =
@@ -70,17 +46,17 @@ pub show-ten-spec : {M : Type 1} → statement M
 show-ten-spec =
     tie.close
     (tie.spec
-    wide-requires
+    (λ c κs. search needs)
     mul-s
     add-s
     mul-a
-    mul-a-2
+    (λ c. search needs)
     add-a
-    add-b
-    mul-b
-    add-b-2
-    mul-b-2
-    add-b-3
+    (λ c. search needs)
+    (λ c. search needs)
+    (λ c. search needs)
+    (λ c. search needs)
+    (λ c. search needs)
     copy-part-requires
-    same-length
+    (λ c. search needs)
     returns)

@@ -7,23 +7,8 @@ use borrow.Author.Needs.{needs}
 use Rattle.sector_cost.proofs.copies.copy_part.Statement.{statement}
 use Rattle.sector_cost.proofs.copies.copy_part.Tie as tie
 
-add-e : tie.Need-add-e
-add-e c = search needs
-
-sub-put-part : tie.Need-sub-put-part
-sub-put-part c = search needs
-
-part-put-part-start : tie.Need-part-put-part-start
-part-put-part-start c = search needs
-
-part-put-part-end : tie.Need-part-put-part-end
-part-put-part-end c = search needs
-
 put-part-requires : tie.Need-put-part-requires
 put-part-requires c κs = simp (length-take, length-drop) (omega arith)
-
-same-length : tie.Need-same-length
-same-length c = search needs
 
 returns : tie.Need-returns
 returns c =
@@ -35,10 +20,10 @@ pub copy-part-spec : {M : Type 1} → statement M
 copy-part-spec =
     tie.close
     (tie.spec
-    add-e
-    sub-put-part
-    part-put-part-start
-    part-put-part-end
+    (λ c. search needs)
+    (λ c. search needs)
+    (λ c. search needs)
+    (λ c. search needs)
     put-part-requires
-    same-length
+    (λ c. search needs)
     returns)

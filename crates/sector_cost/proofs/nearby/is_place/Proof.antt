@@ -3,12 +3,6 @@ use borrow.Author.Needs.{needs}
 use Rattle.sector_cost.proofs.nearby.is_place.Statement.{statement}
 use Rattle.sector_cost.proofs.nearby.is_place.Tie as tie
 
-is-there-requires : tie.Need-is-there-requires
-is-there-requires c κs = search needs
-
-nearby-requires : tie.Need-nearby-requires
-nearby-requires c κs = search needs
-
 returns : tie.Need-returns
 returns c = rw (← c .before .before .is-there .ensures, c .before .if1 .taken, ← c .nearby .ensures)
 
@@ -16,4 +10,4 @@ returns-2 : tie.Need-returns-2
 returns-2 c = rw (← c .before .is-there .ensures, c .if1 .left)
 
 pub is-place-spec : {M : Type 1} → statement M
-is-place-spec = tie.close (tie.spec is-there-requires nearby-requires returns returns-2)
+is-place-spec = tie.close (tie.spec (λ c κs. search needs) (λ c κs. search needs) returns returns-2)

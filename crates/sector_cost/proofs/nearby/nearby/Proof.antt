@@ -12,18 +12,6 @@ returns : tie.Need-returns
 unfolding nearby
 returns c = rw (c .if1 .taken)
 
-sub-compass : tie.Need-sub-compass
-sub-compass c = search needs
-
-compass-requires : tie.Need-compass-requires
-compass-requires c κs = search needs
-
-eastward-requires : tie.Need-eastward-requires
-eastward-requires c κs = search needs
-
-southward-requires : tie.Need-southward-requires
-southward-requires c κs = search needs
-
 shifted-requires : tie.Need-shifted-requires
 shifted-requires c κs = let e = steps-small (c .before .before .compass .result) in search needs
 
@@ -39,9 +27,9 @@ nearby-spec =
     tie.close
     (tie.spec
     returns
-    sub-compass
-    compass-requires
-    eastward-requires
-    southward-requires
+    (λ c. search needs)
+    (λ c κs. search needs)
+    (λ c κs. search needs)
+    (λ c κs. search needs)
     shifted-requires
     returns-2)

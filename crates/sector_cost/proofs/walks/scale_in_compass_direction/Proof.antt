@@ -25,20 +25,11 @@ passed c = walk-passes (start c .pre .0) (start c .args .d) (search needs) (c .b
 few : (c : tie.After-walk-line) → c .walk-line .result .passed ≤ 9
 few c = let w = sought c in omega (arith, first-le (blockedOn (now (start c .args .board)) (spot (start c .args .o) (start c .args .i)) (c .before .before .stride .result)) (start c .args .m .scale), w .at, start c .pre .0 .costs .measures .few-scale)
 
-mul-walk-line : tie.Need-mul-walk-line
-mul-walk-line c = search needs
-
 add-walk-line : tie.Need-add-walk-line
 add-walk-line c = omega (arith, shows-room (c .before .before .before .pre .0))
 
 add-walk-line-2 : tie.Need-add-walk-line-2
 add-walk-line-2 c = omega (arith, shows-room (c .before .before .before .pre .0))
-
-stride-requires : tie.Need-stride-requires
-stride-requires c κs = search needs
-
-wide-requires : tie.Need-wide-requires
-wide-requires c κs = search needs
 
 walk-line-requires : tie.Need-walk-line-requires
 walk-line-requires c κs =
@@ -51,12 +42,6 @@ block-passed-requires c κs =
     let p = start w .pre .0 in
     (omega (arith, p .costs .long, p .on), shows-room p, search needs, few w)
 
-same-length : tie.Need-same-length
-same-length c = search needs
-
-same-length-2 : tie.Need-same-length-2
-same-length-2 c = search needs
-
 returns : tie.Need-returns
 returns c =
     let b = c .before .before .before .before in
@@ -66,9 +51,6 @@ returns c =
     let p = start w .pre .0 in
     let same = run-shown {i = a .i} (a .d) p (start w .pre .1) (w .walk-line .result .passed) (few w) in
     (b .block-passed .ensures .0 ∙ walk-met (a .m) _ (a .s) (a .i) (a .d) (passed w) (sought w .test) (t .if1 .taken), shows-again p (search needs) (b .block-passed .ensures .1 ∙ same ∙ ap (boardOf (a .m)) (sym (b .block-passed .ensures .0))))
-
-same-length-3 : tie.Need-same-length-3
-same-length-3 c = search needs
 
 returns-2 : tie.Need-returns-2
 returns-2 c =
@@ -80,15 +62,15 @@ pub scale-in-compass-direction-spec : {M : Type 1} → statement M
 scale-in-compass-direction-spec =
     tie.close
     (tie.spec
-    mul-walk-line
+    (λ c. search needs)
     add-walk-line
     add-walk-line-2
-    stride-requires
-    wide-requires
+    (λ c κs. search needs)
+    (λ c κs. search needs)
     walk-line-requires
     block-passed-requires
-    same-length
-    same-length-2
+    (λ c. search needs)
+    (λ c. search needs)
     returns
-    same-length-3
+    (λ c. search needs)
     returns-2)

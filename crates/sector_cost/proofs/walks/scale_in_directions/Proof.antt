@@ -55,9 +55,6 @@ back-8 c = c .before .before .before .before .before .before .before
 abbrev start-8 : tie.After-scale-in-compass-direction8 → tie.Start
 start-8 c = start-7 (back-8 c)
 
-scale-in-compass-direction-requires : tie.Need-scale-in-compass-direction-requires
-scale-in-compass-direction-requires c κs = search needs
-
 scale-in-compass-direction-requires-2 : tie.Need-scale-in-compass-direction-requires-2
 scale-in-compass-direction-requires-2 c κs = let w = c .before .before .before .before .before .before in (w .scale-in-compass-direction .ensures .1, start-1 w .pre .1)
 
@@ -111,7 +108,7 @@ pub scale-in-directions-spec : {M : Type 1} → statement M
 scale-in-directions-spec =
     tie.close
     (tie.spec
-    scale-in-compass-direction-requires
+    (λ c κs. search needs)
     scale-in-compass-direction-requires-2
     scale-in-compass-direction-requires-3
     scale-in-compass-direction-requires-4

@@ -4,12 +4,6 @@ use borrow.Author.Needs.{needs}
 use Rattle.sector_cost.proofs.walks.stride.Statement.{statement}
 use Rattle.sector_cost.proofs.walks.stride.Tie as tie
 
-eastward-requires : tie.Need-eastward-requires
-eastward-requires c κs = search needs
-
-southward-requires : tie.Need-southward-requires
-southward-requires c κs = search needs
-
 mul-result : tie.Need-mul-result
 mul-result c = let f = steps-small (c .before .before .args .d) in search needs
 
@@ -24,4 +18,4 @@ returns c =
     search needs
 
 pub stride-spec : {M : Type 1} → statement M
-stride-spec = tie.close (tie.spec eastward-requires southward-requires mul-result add-result returns)
+stride-spec = tie.close (tie.spec (λ c κs. search needs) (λ c κs. search needs) mul-result add-result returns)

@@ -6,16 +6,10 @@ use borrow.Author.Needs.{needs}
 use Rattle.store.proofs.check.any_bad_mark.Statement.{statement}
 use Rattle.store.proofs.check.any_bad_mark.Tie as tie
 
-any-large-requires : tie.Need-any-large-requires
-any-large-requires c κs = search needs
-
 returns : tie.Need-returns
 returns c =
     let s = c .before .before .before in
     rw (bad-any (s .args .m) (marksIn (s .args .m) (now (s .args .st))) (s .pre .0), ← c .before .any-large .ensures, c .if1 .taken)
-
-any-end-requires : tie.Need-any-end-requires
-any-end-requires c κs = search needs
 
 returns-2 : tie.Need-returns-2
 returns-2 c =
@@ -24,4 +18,4 @@ returns-2 c =
     rw (bad-any (s .args .m) (marksIn (s .args .m) (now (s .args .st))) (s .pre .0), ← large .before .any-large .ensures, large .if1 .left) (c .any-end .ensures)
 
 pub any-bad-mark-spec : {M : Type 1} → statement M
-any-bad-mark-spec = tie.close (tie.spec any-large-requires returns any-end-requires returns-2)
+any-bad-mark-spec = tie.close (tie.spec (λ c κs. search needs) returns (λ c κs. search needs) returns-2)

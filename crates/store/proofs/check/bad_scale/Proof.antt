@@ -4,12 +4,9 @@ use borrow.Author.Needs.{needs}
 use Rattle.store.proofs.check.bad_scale.Statement.{statement}
 use Rattle.store.proofs.check.bad_scale.Tie as tie
 
-is-outside-requires : tie.Need-is-outside-requires
-is-outside-requires c κs = search needs
-
 returns : tie.Need-returns
 unfolding badScale
 returns c = search needs
 
 pub bad-scale-spec : {M : Type 1} → statement M
-bad-scale-spec = tie.close (tie.spec is-outside-requires returns)
+bad-scale-spec = tie.close (tie.spec (λ c κs. search needs) returns)

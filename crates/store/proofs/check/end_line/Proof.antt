@@ -8,32 +8,8 @@ use borrow.Author.Needs.{needs}
 use Rattle.store.proofs.check.end_line.Statement.{statement}
 use Rattle.store.proofs.check.end_line.Tie as tie
 
-wide-requires : tie.Need-wide-requires
-wide-requires c κs = search needs
-
-wide-requires-2 : tie.Need-wide-requires-2
-wide-requires-2 c κs = search needs
-
-enum-told : tie.Need-enum-told
-enum-told c = search needs
-
-enum-told-2 : tie.Need-enum-told-2
-enum-told-2 c = search needs
-
-sub-t6 : tie.Need-sub-t6
-sub-t6 c = search needs
-
 mul-t7 : tie.Need-mul-t7
 mul-t7 c = let s = c .before .before in omega (arith, bytes-product {a = s .before .wide .result - 1} (omega arith) (s .wide2 .ensures .1))
-
-enum-told-3 : tie.Need-enum-told-3
-enum-told-3 c = search needs
-
-sub-t8 : tie.Need-sub-t8
-sub-t8 c = search needs
-
-enum-told-4 : tie.Need-enum-told-4
-enum-told-4 c = search needs
 
 returns : tie.Need-returns
 unfolding endLine
@@ -57,15 +33,15 @@ pub end-line-spec : {M : Type 1} → statement M
 end-line-spec =
     tie.close
     (tie.spec
-    wide-requires
-    wide-requires-2
-    enum-told
-    enum-told-2
-    sub-t6
+    (λ c κs. search needs)
+    (λ c κs. search needs)
+    (λ c. search needs)
+    (λ c. search needs)
+    (λ c. search needs)
     mul-t7
-    enum-told-3
-    sub-t8
-    enum-told-4
+    (λ c. search needs)
+    (λ c. search needs)
+    (λ c. search needs)
     returns
     returns-2
     returns-3

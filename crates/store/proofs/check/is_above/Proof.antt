@@ -5,11 +5,8 @@ use borrow.Author.Needs.{needs}
 use Rattle.store.proofs.check.is_above.Statement.{statement}
 use Rattle.store.proofs.check.is_above.Tie as tie
 
-mark-in-requires : tie.Need-mark-in-requires
-mark-in-requires c κs = search needs
-
 returns : tie.Need-returns
 returns c = ap (ltb (c .before .before .args .limit)) (c .mark-in .ensures)
 
 pub is-above-spec : {M : Type 1} → statement M
-is-above-spec = tie.close (tie.spec mark-in-requires returns)
+is-above-spec = tie.close (tie.spec (λ c κs. search needs) returns)

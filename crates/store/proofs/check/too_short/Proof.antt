@@ -3,11 +3,8 @@ use borrow.Author.Needs.{needs}
 use Rattle.store.proofs.check.too_short.Statement.{statement}
 use Rattle.store.proofs.check.too_short.Tie as tie
 
-size-of-requires : tie.Need-size-of-requires
-size-of-requires c κs = search needs
-
 returns : tie.Need-returns
 returns c = cc
 
 pub too-short-spec : {M : Type 1} → statement M
-too-short-spec = tie.close (tie.spec size-of-requires returns)
+too-short-spec = tie.close (tie.spec (λ c κs. search needs) returns)

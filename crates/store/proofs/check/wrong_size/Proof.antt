@@ -3,11 +3,8 @@ use borrow.Author.Needs.{needs}
 use Rattle.store.proofs.check.wrong_size.Statement.{statement}
 use Rattle.store.proofs.check.wrong_size.Tie as tie
 
-cells-requires : tie.Need-cells-requires
-cells-requires c κs = search needs
-
 returns : tie.Need-returns
 returns c = cc
 
 pub wrong-size-spec : {M : Type 1} → statement M
-wrong-size-spec = tie.close (tie.spec cells-requires returns)
+wrong-size-spec = tie.close (tie.spec (λ c κs. search needs) returns)

@@ -6,25 +6,13 @@ use borrow.Author.Needs.{needs}
 use Rattle.store.proofs.file.fill_from.Statement.{statement}
 use Rattle.store.proofs.file.fill_from.Tie as tie
 
-u16-at-requires : tie.Need-u16-at-requires
-u16-at-requires c κs = search needs
-
-fill-requires : tie.Need-fill-requires
-fill-requires c κs = search needs
-
 put-entries-requires : tie.Need-put-entries-requires
 put-entries-requires c κs =
     let n = c .before .before .before .before .before in
     let e = n .before .before .before .pre in
     (omega (arith, e .whole, n .u16-at .ensures), rw (n .u16-at .ensures .0) (e .on), c .before .before .before .fill .kept .0 ∙ e .room)
 
-same-length : tie.Need-same-length
-same-length c = search needs
-
-returns : tie.Need-returns
-returns c = search (needs, filled-from)
-
 pub fill-from-spec : {M : Type 1} → statement M
 fill-from-spec =
     tie.close
-    (tie.spec u16-at-requires fill-requires put-entries-requires same-length returns)
+    (tie.spec (λ c κs. search needs) (λ c κs. search needs) put-entries-requires (λ c. search needs) (λ c. search (needs, filled-from)))

@@ -3,11 +3,8 @@ use borrow.Author.Needs.{needs}
 use Rattle.store.proofs.file.too_many.Statement.{statement}
 use Rattle.store.proofs.file.too_many.Tie as tie
 
-u16-at-requires : tie.Need-u16-at-requires
-u16-at-requires c κs = search needs
-
 returns : tie.Need-returns
 returns c = cc
 
 pub too-many-spec : {M : Type 1} → statement M
-too-many-spec = tie.close (tie.spec u16-at-requires returns)
+too-many-spec = tie.close (tie.spec (λ c κs. search needs) returns)

@@ -6,31 +6,19 @@ use borrow.Author.Needs.{needs}
 use Rattle.store.proofs.layout.put_measures.Statement.{statement}
 use Rattle.store.proofs.layout.put_measures.Tie as tie
 
-slice-write-st : tie.Need-slice-write-st
-slice-write-st c = search needs
-
 slice-write-st-2 : tie.Need-slice-write-st-2
 slice-write-st-2 c = simp length-set (omega arith)
 
 slice-write-st-3 : tie.Need-slice-write-st-3
 slice-write-st-3 c = simp length-set (omega arith)
 
-slice-write-st-4 : tie.Need-slice-write-st-4
-slice-write-st-4 c = search needs
-
-same-length : tie.Need-same-length
-same-length c = search needs
-
-returns : tie.Need-returns
-returns c = search (needs, header-set)
-
 pub put-measures-spec : {M : Type 1} → statement M
 put-measures-spec =
     tie.close
     (tie.spec
-    slice-write-st
+    (λ c. search needs)
     slice-write-st-2
     slice-write-st-3
-    slice-write-st-4
-    same-length
-    returns)
+    (λ c. search needs)
+    (λ c. search needs)
+    (λ c. search (needs, header-set)))

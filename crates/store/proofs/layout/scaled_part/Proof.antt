@@ -7,27 +7,6 @@ use borrow.Author.Needs.{needs}
 use Rattle.store.proofs.layout.scaled_part.Statement.{statement}
 use Rattle.store.proofs.layout.scaled_part.Tie as tie
 
-cells-requires : tie.Need-cells-requires
-cells-requires c κs = search needs
-
-add-start : tie.Need-add-start
-add-start c = search needs
-
-cells-requires-2 : tie.Need-cells-requires-2
-cells-requires-2 c κs = search needs
-
-add-end : tie.Need-add-end
-add-end c = search needs
-
-sub-result : tie.Need-sub-result
-sub-result c = search needs
-
-part-result-start : tie.Need-part-result-start
-part-result-start c = search needs
-
-part-result-end : tie.Need-part-result-end
-part-result-end c = search needs
-
 returns : tie.Need-returns
 returns c =
     let start = 4 + c .before .before .cells .result in
@@ -37,11 +16,11 @@ pub scaled-part-spec : {M : Type 1} → statement M
 scaled-part-spec =
     tie.close
     (tie.spec
-    cells-requires
-    add-start
-    cells-requires-2
-    add-end
-    sub-result
-    part-result-start
-    part-result-end
+    (λ c κs. search needs)
+    (λ c. search needs)
+    (λ c κs. search needs)
+    (λ c. search needs)
+    (λ c. search needs)
+    (λ c. search needs)
+    (λ c. search needs)
     returns)

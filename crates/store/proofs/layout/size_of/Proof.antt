@@ -5,17 +5,11 @@ use borrow.Author.Needs.{needs}
 use Rattle.store.proofs.layout.size_of.Statement.{statement}
 use Rattle.store.proofs.layout.size_of.Tie as tie
 
-sectors-requires : tie.Need-sectors-requires
-sectors-requires c κs = search needs
-
 mul-result : tie.Need-mul-result
 mul-result c = omega (arith, bytes-product {a = c .before .args .m .columns} {b = c .before .args .m .rows} (omega arith) (omega arith))
 
 add-result : tie.Need-add-result
 add-result c = omega (arith, bytes-product {a = c .before .args .m .columns} {b = c .before .args .m .rows} (omega arith) (omega arith))
 
-returns : tie.Need-returns
-returns c = search needs
-
 pub size-of-spec : {M : Type 1} → statement M
-size-of-spec = tie.close (tie.spec sectors-requires mul-result add-result returns)
+size-of-spec = tie.close (tie.spec (λ c κs. search needs) mul-result add-result (λ c. search needs))
