@@ -1,5 +1,5 @@
 #!/usr/bin/env python3
-"""Lists the public names of crates/ that no other file uses, and ends with 1 if there is one.
+"""Lists the public names of crates/ that no other file uses and the names that a specification or a proof brings in for nothing, and ends with 1 if there is one.
 
 unused.py [CRATE..]    all crates, or the ones named
 
@@ -143,6 +143,16 @@ def unused_in(path, lines, used, sources):
     return [(where, name) for name in names]
 
 
+def idle_in(path, lines):
+    """The names that a file of definitions or proofs brings in and does not use; of an operator, each part counts as its use."""
+    if path.suffix == ".rt":
+        return []
+    uses = [found for line in lines if (found := USE.search(line.strip())) and "pub " not in line]
+    here = set(re.split(r"[\s(){},.;@«»]+", "\n".join(line for line in lines if not USE.search(line.strip()))))
+    names = [name.split(" as ")[-1].strip(" «»") for found in uses if found.group(2) for name in found.group(2).split(",")]
+    return [(str(path.relative_to(CRATES)), name) for name in names if name not in here and not set(filter(None, name.split("_"))) <= here]
+
+
 def main():
     chosen = set(sys.argv[1:])
     lines = {path: code_of(path) for path in sorted(CRATES.rglob("*")) if path.suffix in (".antt", ".rt")}
@@ -152,8 +162,11 @@ def main():
     unused = [found for path in files for found in unused_in(path, lines, used, sources)]
     for where, name in unused:
         print(f"{where}: {name}: {'needs no pub' if mentioned(name, lines[CRATES / where]) else 'nobody uses it'}")
-    print(f"{len(unused)} public names without a user")
-    sys.exit(1 if unused else 0)
+    idle = [found for path in files for found in idle_in(path, lines[path])]
+    for where, name in idle:
+        print(f"{where}: {name}: brought in for nothing")
+    print(f"{len(unused)} public names without a user, {len(idle)} names brought in for nothing")
+    sys.exit(1 if unused or idle else 0)
 
 
 main()

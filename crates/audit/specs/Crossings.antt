@@ -1,5 +1,5 @@
 -- The floor of a hall by its scaled costs, as the floors of `laws`; and how a move over a border leaves a sector and enters the next.
-use Prim.Native.Nat.{ℕ, _+_, _*_, _%_, _≤_, _<_}
+use Prim.Native.Nat.{ℕ, _+_, _*_, _≤_, _<_}
 use native.Mathlib.Omega.{arith}
 use mathlib.Core.Path.{_≡_, refl, sym}
 use mathlib.Core.Logic.{_⊎_, inl, inr, _≢_}

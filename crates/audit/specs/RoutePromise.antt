@@ -1,5 +1,5 @@
 -- The route of a fresh hall keeps the promise of the detour: given exactly when a walk exists, a walk itself, and within the bound. And its steps fit into 1,001.
-use Prim.Native.Nat.{ℕ, _+_, _*_, _≤_, _<_}
+use Prim.Native.Nat.{ℕ, _+_, _≤_, _<_}
 use native.Mathlib.Omega.{arith}
 use mathlib.Core.Path.{_≡_, refl, sym, ap, ap₂, _∙_}
 use mathlib.Core.Bool.{Bool, true, false, _&&_, true≢false}

@@ -15,7 +15,7 @@ use Rattle.model.specs.Portals.{portalSector, portalWindow, portalMark, isPorta
 use Rattle.model.specs.Sides.{number-side}
 use Rattle.model.specs.PortalNumbers.{portal-is, portal-none, portal-test}
 use Rattle.model.specs.PortalCrossings.{Fits, portal-run}
-use Rattle.model.specs.Store.{measuresAt, sizeOf, marksIn, hallIn, decode}
+use Rattle.model.specs.Store.{sizeOf, marksIn, hallIn, decode}
 use Rattle.store.specs.Layout.{hall-read}
 use Rattle.portal.specs.declared.runs.OpenRun.{OpenRun}
 use Rattle.portal.specs.Runs.{placesOf}

@@ -1,5 +1,5 @@
 -- The edges of a portal in the cases that code meets, and that they are the graph's weights.
-use Prim.Native.Nat.{ℕ, _+_, _*_, _/_, _%_, _≤_, _<_}
+use Prim.Native.Nat.{ℕ, _/_, _%_, _≤_, _<_}
 use native.Mathlib.Omega.{arith}
 use mathlib.Core.Path.{_≡_, refl, sym, ap, _∙_}
 use mathlib.Core.Bool.{Bool, true, false, _&&_}
@@ -11,8 +11,7 @@ use Rattle.laws.specs.Fold.{pick}
 use Rattle.laws.specs.Table.{length-tabulate, table-at}
 use Rattle.model.specs.declared.Measures.{Measures}
 use Rattle.model.specs.declared.Side.{Side}
-use Rattle.model.specs.Cells.{sideAt}
-use Rattle.model.specs.Sectors.{floorNumber, sectors, sectorOf, placeOf, costsOf, hasBeyond}
+use Rattle.model.specs.Sectors.{floorNumber, sectorOf, placeOf, costsOf, hasBeyond}
 use Rattle.model.specs.Moves.{moves, apart}
 use Rattle.model.specs.Halls.{Hall}
 use Rattle.model.specs.Portals.{sectorPortals, arcCount, portalSector, portalSide, portalPlace, placePortal, arcAt, isPortal, midpoint, movesFrom, facing, key, outerEdge, innerEdge, edgeAt, portalGraph}

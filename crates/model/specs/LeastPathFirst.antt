@@ -1,13 +1,11 @@
 -- `leastPath` is least among all portal paths: by cost, then by edges, then by the first difference in `PortalNode` order; and there is none exactly where its key says so.
-use Prim.Native.Nat.{ℕ, _+_, _*_, _/_, _%_, _≤_, _<_}
+use Prim.Native.Nat.{ℕ, _%_, _<_}
 use native.Mathlib.Omega.{arith}
-use mathlib.Core.Path.{_≡_}
 use mathlib.Core.List.{List}
 use lib.ListN.{getD}
 use Rattle.laws.specs.Graph.{Settled, turned}
 use Rattle.laws.specs.LeastCosts.{least-costs-settled}
 use Rattle.laws.specs.Keys.{Keyed, Journey, Before, least-journey, journey-reached}
-use Rattle.model.specs.Sectors.{sectors}
 use Rattle.model.specs.Halls.{Hall}
 use Rattle.model.specs.Portals.{keyStep, key, portalGraph}
 use Rattle.model.specs.PortalCrossings.{Fits}

@@ -1,7 +1,7 @@
 -- In a hall whose marks have ten bits: the window of a portal is a longest open run, and its crossing is a cell of its sector.
-use Prim.Native.Nat.{ℕ, _+_, _*_, _/_, _%_, _≤_, _<_}
+use Prim.Native.Nat.{ℕ, _≤_, _<_}
 use native.Mathlib.Omega.{arith}
-use mathlib.Core.Path.{_≡_, _∙_}
+use mathlib.Core.Path.{_≡_}
 use mathlib.Core.Bool.{true}
 use lib.ListN.{getD}
 use Rattle.model.specs.declared.Side.{Side}

@@ -1,7 +1,7 @@
 -- What the pairs of a route are: a start joined to the source, an end joined to the goal, and a portal path between them; and every such pair is there.
-use Prim.Native.Nat.{ℕ, _+_, _*_, _<_}
+use Prim.Native.Nat.{ℕ, _*_, _<_}
 use native.Mathlib.Omega.{arith}
-use mathlib.Core.Path.{_≡_, refl, sym, _∙_}
+use mathlib.Core.Path.{_≡_, sym, _∙_}
 use mathlib.Core.Bool.{true, _&&_}
 use mathlib.Core.List.{map, Memᴰ·map, Memᴰ·of-map}
 use lib.ListN.{getD}
@@ -9,7 +9,7 @@ use Rattle.laws.specs.Search.{both, passing-is, passing-has}
 use Rattle.laws.specs.Graph.{Graph}
 use Rattle.laws.specs.Members.{In, pairs-is, pairs-has}
 use Rattle.model.specs.Sectors.{sectorOf}
-use Rattle.model.specs.Moves.{movesTo, joined}
+use Rattle.model.specs.Moves.{joined}
 use Rattle.model.specs.MovesFewest.{joined-is}
 use Rattle.model.specs.Halls.{Hall}
 use Rattle.model.specs.Portals.{sectorPortals, portalSector, isPortal, midCell}

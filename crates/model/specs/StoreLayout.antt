@@ -7,7 +7,7 @@ use native.Mathlib.Numerals.{add-one}
 use native.Mathlib.Omega.{arith}
 use lib.ListN.{length, getD, drop, length-append, length-drop}
 use lib.Seq.{getD-append-add, ext-getD}
-use Rattle.laws.specs.Region.{region, length-region, getD-region, region-at}
+use Rattle.laws.specs.Region.{region, length-region, region-at}
 use Rattle.laws.specs.Table.{length-tabulate, tabulate-at}
 use Rattle.model.specs.declared.Measures.{Measures}
 use Rattle.model.specs.Sectors.{sectors, cells}

@@ -1,7 +1,7 @@
 -- What the walk along a least path is given, and where its arcs lead.
-use Prim.Native.Nat.{ℕ, _+_, _-_, _*_, _/_, _%_, _≤_, _<_}
+use Prim.Native.Nat.{ℕ, _+_, _-_, _*_, _≤_, _<_}
 use native.Mathlib.Omega.{arith}
-use mathlib.Core.Path.{_≡_, refl, sym, ap, subst, _∙_}
+use mathlib.Core.Path.{_≡_, sym, ap, subst, _∙_}
 use mathlib.Core.Logic.{_⊎_}
 use mathlib.Core.Bool.{Bool, true, false, false≢true}
 use mathlib.Core.List.{List, _++_}
@@ -14,9 +14,8 @@ use Rattle.laws.specs.Keys.{few-edges}
 use Rattle.laws.specs.Tracing.{next-skip, next-take, next-same, Tracing, tracing-none, tracing-node, tracing-room, tracing-over, tracing-more}
 use Rattle.model.specs.declared.Measures.{Measures}
 use Rattle.model.specs.declared.Side.{Side}
-use Rattle.model.specs.Cells.{sideNumber, sideAt}
+use Rattle.model.specs.Cells.{sideNumber}
 use Rattle.model.specs.Windows.{borderCell, firstPlace, lastPlace}
-use Rattle.model.specs.Halls.{Hall}
 use Rattle.model.specs.Portals.{sectorPortals, portalCount, arcCount, portalSector, portalSide, portalWindow, arcTail, arcPlace, portalMark, isPortal, headOf, key, portalGraph}
 use Rattle.model.specs.LeastPath.{cellRank, nodeRank, unlinked, keysTo, leastPath}
 use Rattle.model.specs.PortalEdges.{weight-low, head-portal, portal-sound}

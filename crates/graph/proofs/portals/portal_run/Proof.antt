@@ -1,5 +1,4 @@
 -- `portal_run` finds the window by the mark of its side.
-use mathlib.Core.Path.{_≡_}
 use denote.Ref.{now}
 use Rattle.model.specs.Store.{decode}
 use Rattle.model.specs.PortalNumbers.{portal-is}

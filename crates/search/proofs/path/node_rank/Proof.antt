@@ -1,13 +1,12 @@
 -- `node_rank` puts sector, first cell, last cell and side into one number.
 use native.Mathlib.Omega.{arith}
 use mathlib.Core.Path.{ap, _∙_}
-use Prim.Native.Nat.{ℕ, _+_, _*_, _/_, _%_, _<_}
+use Prim.Native.Nat.{ℕ, _+_, _*_, _/_, _<_}
 use denote.Ref.{now}
 use borrow.Author.Needs.{needs}
 use Rattle.model.specs.Windows.{borderCell}
 use Rattle.model.specs.Sides.{side-low}
 use Rattle.model.specs.LeastPath.{cellRank}
-use Rattle.model.specs.Store.{decode}
 use Rattle.graph.specs.Reading.{accepted-of, portal-sector}
 use Rattle.search.specs.Following.{rank-is}
 use Rattle.search.proofs.path.node_rank.Statement.{statement}
