@@ -1,6 +1,6 @@
 // Plans. Each of the four values is given as two numbers of four bytes, to be divided: 0 over 0 is a NaN, 1 over 0 infinite.
 ghost use Prim.Native.Nat.{_≤_};
-use hall::plan::plan;
+use hall_plan::plan;
 use model::Dimensions;
 use model::Measured;
 use std::num::nearest_u32_to_f32;

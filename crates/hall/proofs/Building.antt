@@ -12,7 +12,7 @@ use Rattle.model.specs.Store.{sizeOf, written}
 use Rattle.model.specs.Calls.{ifAccepted, buildNumber, built, buildInto}
 use Rattle.store.specs.Checks.{not-different}
 use Rattle.builder.specs.Parts.{Buildable}
-use Rattle.hall.proofs.Passed.{none, not-accepted}
+use Rattle.model.specs.Refusals.{none, not-accepted}
 
 module _ (m : Measures) (base st : List ℕ) {r : ℕ} (is : r ≡ buildNumber m base st) where
   pub build-kept : 0 < r → st ≡ buildInto m base st

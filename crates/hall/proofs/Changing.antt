@@ -12,7 +12,8 @@ use Rattle.model.specs.Store.{measuresAt, decode, written}
 use Rattle.model.specs.Change.{changed}
 use Rattle.model.specs.Calls.{orElse, checkNumber, alterNumber, changeNumber, changeInto}
 use Rattle.builder.specs.Parts.{Changeable, alteredNumber, alteredInto}
-use Rattle.hall.proofs.Passed.{none, not-accepted, refused-first, passed}
+use Rattle.model.specs.Refusals.{none, not-accepted, refused-first}
+use Rattle.hall.proofs.Passed.{passed}
 
 module _ (st : List ℕ) (n cost : ℕ) where
   -- whatever its number, a refusal leaves the store

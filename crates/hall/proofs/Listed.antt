@@ -18,7 +18,8 @@ use Rattle.model.specs.Answers.{WindowsAnswers, windows-answers}
 use Rattle.store.specs.Checks.{Checked}
 use Rattle.portal.specs.SectorWindows.{windowsBy, FourMarks, windows-by, over, few-by}
 use Rattle.store.specs.Layout.{sectorMarks}
-use Rattle.hall.proofs.Passed.{refused-first, none, passed}
+use Rattle.model.specs.Refusals.{refused-first, none}
+use Rattle.hall.proofs.Passed.{passed}
 
 -- ---- the marks of a sector
 module _ {st : List ℕ} {m : Measures} (s : ℕ) {marks : List ℕ} (read : m ≡ measuresAt st) (k : Checked st) (on : s < sectors m) (are : marks ≡ sectorMarks (marksIn m st) s) where

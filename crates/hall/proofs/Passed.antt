@@ -1,7 +1,7 @@
 -- A store that passed the check, and the measures read from it.
-use mathlib.Core.Path.{_≡_, refl, sym, _∙_}
+use mathlib.Core.Path.{_≡_, sym, _∙_}
 use mathlib.Core.List.{List}
-use Prim.Native.Nat.{ℕ, zero, suc, _≤_, _<_}
+use Prim.Native.Nat.{ℕ, _≤_, _<_}
 use native.Mathlib.Omega.{arith}
 use mathlib.Core.Bool.{true, false}
 use lib.Dec.{ltb}
@@ -10,7 +10,8 @@ use borrow.Author.Tests.{lt-ltb, le-ltb}
 use Rattle.model.specs.declared.Measures.{Measures}
 use Rattle.model.specs.Accepted.{Accepted}
 use Rattle.model.specs.Store.{measuresAt, fourthAt, sizeOf}
-use Rattle.model.specs.Calls.{orElse, ifAccepted, checkNumber}
+use Rattle.model.specs.Calls.{checkNumber}
+use Rattle.model.specs.Refusals.{none}
 use Rattle.store.specs.Checks.{Checked, checked}
 
 -- what the test of the fourth byte found: for the search at each return of the store check
@@ -20,20 +21,6 @@ module _ (st : List ℕ) (r : ℕ) (is : r ≡ fourthAt st) where
 
   pub fourth-good : r ≤ 0 → ltb 0 (fourthAt st) ≡ false
   fourth-good h = le-ltb 0 (fourthAt st) (omega arith)
-
--- a number that comes before what else may be refused
-pub refused-first : (r rest : ℕ) → 0 < r → r ≡ orElse r rest
-unfolding orElse
-refused-first zero rest h = absurd (omega arith)
-refused-first (suc r) rest h = refl
-
-pub not-accepted : {A : Type 0} (n : ℕ) (new old : A) → 0 < n → old ≡ ifAccepted n new old
-unfolding ifAccepted
-not-accepted zero new old h = absurd (omega arith)
-not-accepted (suc n) new old h = refl
-
-pub none : {r : ℕ} → r ≤ 0 → r ≡ 0
-none h = omega arith
 
 pub passed : {st : List ℕ} {r : ℕ} → r ≡ checkNumber st → r ≤ 0 → Checked st
 passed {st} e z = checked st (sym e ∙ none z)

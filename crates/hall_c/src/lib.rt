@@ -7,10 +7,10 @@ ghost use Rattle.hall_c.specs.Answers.{version, dimensions, flatMeasures
 use hall::build::build;
 use hall::change::change;
 use hall::check::check_store;
-use hall::file::read_file;
-use hall::plan::plan;
-use hall::routing::route;
 use hall::windows::windows;
+use hall_file::read::read_file;
+use hall_plan::plan;
+use hall_route::route;
 use model::Dimensions;
 use model::Listed;
 use model::Measured;

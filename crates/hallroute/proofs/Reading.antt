@@ -14,7 +14,7 @@ use Rattle.model.specs.Accepted.{many-sectors, good-sectors, good-scale}
 use Rattle.model.specs.Calls.{measured, ifAccepted, readNumber, readAnswer, readInto, buildNumber, buildInto}
 use Rattle.model.specs.Hallroute.{fileSize}
 use Rattle.store.specs.Checks.{readable}
-use Rattle.hall.proofs.Passed.{not-accepted}
+use Rattle.model.specs.Refusals.{not-accepted}
 use Rattle.io.specs.Counts.{Counts}
 use Rattle.io.proofs.Counting.{counts}
 use Rattle.hallroute.specs.Opening.{fileNumber, openInto}

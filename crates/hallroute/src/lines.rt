@@ -10,7 +10,7 @@ use cards::decimal::put_small;
 use cards::lines::line_of;
 use cards::text::put_byte;
 use cards::text::put_text;
-use hall::routing::route;
+use hall_route::route;
 use store::reading::u16_at;
 
 // The line of a pair, from the first byte on, and how long it is. The list holds 1,001 steps.

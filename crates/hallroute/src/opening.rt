@@ -8,7 +8,7 @@ ghost use Rattle.io.specs.Counts.{Counts};
 ghost use Rattle.hallroute.specs.Opening.{fileNumber, openInto};
 use fields::sectors::cells;
 use hall::build::build;
-use hall::file::read_file;
+use hall_file::read::read_file;
 use model::Measured;
 use store::reading::measures_at;
 use store::reading::u16_at;

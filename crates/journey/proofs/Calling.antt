@@ -12,7 +12,7 @@ use Rattle.model.specs.declared.Routed.{Routed}
 use Rattle.model.specs.declared.Routed.the-variants.{Refused}
 use Rattle.model.specs.Account.{Call}
 use Rattle.model.specs.Calls.{ifAccepted, buildNumber, buildInto, changeInto, routeAnswer, routeFlat, storeAfterCall, storeAfter}
-use Rattle.hall.proofs.Passed.{none, not-accepted}
+use Rattle.model.specs.Refusals.{none, not-accepted}
 use Rattle.hall.proofs.Building.{build-kept}
 use Rattle.audit.specs.Claim.{Demand3}
 use Rattle.journey.specs.Journey.{callOf, callsIn, stepsAfterCall, stepsAfter, reachSteps, journeyAnswer, journeyInto, journeySteps}

@@ -8,7 +8,7 @@ ghost use Rattle.journey.specs.Journey.{callOf, callsIn, stepsAfterCall,
 ghost use Rattle.journey.specs.Parts.{Reaches, ClaimsReached};
 use hall::build::build;
 use hall::change::change;
-use hall::routing::route;
+use hall_route::route;
 use model::Routed;
 
 // Makes one call: kind 0 changes the cell of floor number a to the low byte of b, any other kind asks for a route from a to b. What the call answers is not kept.

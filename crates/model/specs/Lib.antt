@@ -36,6 +36,7 @@ pub mod Account
 pub mod Store
 pub mod StoreLayout
 pub mod Calls
+pub mod Refusals
 pub mod FewSteps
 pub mod Answers
 pub mod Hallroute

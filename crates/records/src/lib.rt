@@ -8,10 +8,10 @@ ghost use Rattle.model.specs.Calls.{routeAnswer, routeSteps};
 ghost use Rattle.model.specs.Answers.{RouteAnswers};
 ghost use Rattle.records.specs.Routing.{Flatly};
 use fields::steps::step_in;
-use hall::routing::route;
+use hall_route::route;
 use model::RouteStep;
 use model::Routed;
-use route::steps::steps_of;
+use path::steps::steps_of;
 
 // The first n steps of a flat list go to the first n records; the others stay.
 fn write_records(flat: &[u8], n: usize, list: &mut [RouteStep])

@@ -25,10 +25,10 @@ use Rattle.model.specs.PortalCrossings.{Fits}
 use Rattle.model.specs.Route.{Found, none, route, endOf, runOf, stepsOf, chosenPair, throughPair, throughPortals, oneStep, routeOf}
 use Rattle.model.specs.Calls.{stepList, routed}
 use Rattle.graph.specs.Near.{leg-moves, last-moves, near-portal}
-use Rattle.route.specs.Choosing.{Chosen, legAt, lastAt}
-use Rattle.route.specs.PortalPaths.{PortalPath, least-portal-path}
+use Rattle.choice.specs.Choosing.{Chosen, legAt, lastAt}
+use Rattle.path.specs.PortalPaths.{PortalPath, least-portal-path}
 use Rattle.model.specs.FewSteps.{length-steps}
-use Rattle.route.specs.Stepping.{length-flat}
+use Rattle.path.specs.Stepping.{length-flat}
 
 -- what was found, as an answer that refuses nothing
 unfoldable pub foundAnswer : Found → Routed

@@ -1,5 +1,1 @@
-pub mod Choosing
-pub mod FirstPair
-pub mod PortalPaths
-pub mod Stepping
 pub mod Finding

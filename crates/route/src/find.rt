@@ -7,13 +7,10 @@ ghost use Rattle.model.specs.Portals.{portalCount, arcCount, portalGraph};
 ghost use Rattle.model.specs.Route.{throughPortals, routeOf};
 ghost use Rattle.model.specs.Store.{decode};
 ghost use Rattle.graph.specs.EdgeTable.{Opened};
-ghost use Rattle.search.specs.Following.{Linked};
+ghost use Rattle.path.specs.Following.{Linked};
 ghost use Rattle.route.specs.Finding.{foundAnswer, foundInto, lastRoute, Paired, pairRoute};
-use crate::choice::PAIRS;
-use crate::choice::choose_pair;
-use crate::steps::step_count;
-use crate::steps::write_last;
-use crate::steps::write_steps;
+use choice::pair::PAIRS;
+use choice::pair::choose_pair;
 use fields::sectors::SECTOR_CELLS;
 use fields::sectors::sectors;
 use graph::edges::KEY_STEP;
@@ -24,8 +21,11 @@ use graph::portals::SECTOR_ARCS;
 use graph::portals::SECTOR_PORTALS;
 use model::Measures;
 use model::Routed;
+use path::least::least_path;
+use path::steps::step_count;
+use path::steps::write_last;
+use path::steps::write_steps;
 use search::keys::keys_to;
-use search::path::least_path;
 
 // The route of one step, to a goal at these moves in the same sector.
 fn one_step(m: Measures, goal: usize, moves: u8, list: &mut [u8]) -> Routed

@@ -1,5 +1,3 @@
 pub mod Searching
 pub mod Keys
 pub mod Turns
-pub mod Ends
-pub mod Following

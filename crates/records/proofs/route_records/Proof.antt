@@ -62,10 +62,10 @@ use Rattle.records.proofs.flat_route as flat-route
 use Rattle.records.proofs.flat_route.Symbol as flat-route-def
 use Rattle.records.proofs.flat_route.Symbol.{name as #records·flat-route}
 use Rattle.records.proofs.flat_route.Met as flat-route-thm
-use Rattle.route.proofs.steps.steps_of as steps-of
-use Rattle.route.proofs.steps.steps_of.Symbol as steps-of-def
-use Rattle.route.proofs.steps.steps_of.Symbol.{name as #route·steps-of}
-use Rattle.route.proofs.steps.steps_of.Met as steps-of-thm
+use Rattle.path.proofs.steps.steps_of as steps-of
+use Rattle.path.proofs.steps.steps_of.Symbol as steps-of-def
+use Rattle.path.proofs.steps.steps_of.Symbol.{name as #path·steps-of}
+use Rattle.path.proofs.steps.steps_of.Met as steps-of-thm
 use Rattle.records.proofs.write_records as write-records
 use Rattle.records.proofs.write_records.Symbol as write-records-def
 use Rattle.records.proofs.write_records.Symbol.{name as #records·write-records}
@@ -200,7 +200,7 @@ module _ {M : Type 1} (𝓤 : URA M) (H : Heap 𝓤) (A : Atoms 𝓤) (W : Given
       move ! (2 ∷ 0 ∷ []) $ fjoin ! $ frame ! $ done !
 
   module _ (𝓣 : Tables 𝓤 H) (fm : FmC 𝓤 H (W .laws) (𝓣 .C)) (known-flat : Triple 𝓤 (𝓣 .C #records·flat-route) (FlatRoute 𝓤 H A at-mem run))
-      (known-steps : Triple 𝓤 (𝓣 .C #route·steps-of) (StepsOf 𝓤 H A at-mem run))
+      (known-steps : Triple 𝓤 (𝓣 .C #path·steps-of) (StepsOf 𝓤 H A at-mem run))
       (known-write : Triple 𝓤 (𝓣 .C #records·write-records) (WriteRecords 𝓤 H A at-mem run)) where
     walk : ent 𝓤 (onEntry 𝓤 H A route-records.signature (κ, (κ′, tt)) (q, (q′, tt)) x at) (WpFn 𝓤 H (𝓣 .C) (𝓣 .Λ) code.function (sv ∷ vint w64 source ∷ vint w64 goal ∷ yv ∷ []) Post)
     walk =
@@ -303,7 +303,7 @@ module _ {M : Type 1} (𝓤 : URA M) (H : Heap 𝓤) (A : Atoms 𝓤) (W : Given
         ∙ recorded st source goal ys answer fl) same)))))))))))))))))))))))))))))))))))))))))
 
 module _ {M : Type 1} (𝓤 : URA M) (H : Heap 𝓤) (A : Atoms 𝓤) (W : Given 𝓤 H A) (at-mem : Memory → SProp 𝓤) (run : Routine → Fun 𝓤) where
-  route-records-walks : (𝓣 : Tables 𝓤 H) → FmC 𝓤 H (W .laws) (𝓣 .C) → Triple 𝓤 (𝓣 .C #records·flat-route) (FlatRoute 𝓤 H A at-mem run) → Triple 𝓤 (𝓣 .C #route·steps-of) (StepsOf 𝓤 H A at-mem run)
+  route-records-walks : (𝓣 : Tables 𝓤 H) → FmC 𝓤 H (W .laws) (𝓣 .C) → Triple 𝓤 (𝓣 .C #records·flat-route) (FlatRoute 𝓤 H A at-mem run) → Triple 𝓤 (𝓣 .C #path·steps-of) (StepsOf 𝓤 H A at-mem run)
       → Triple 𝓤 (𝓣 .C #records·write-records) (WriteRecords 𝓤 H A at-mem run)
       → Walks 𝓤 H A route-records.ended stayed (WpFn 𝓤 H (𝓣 .C) (𝓣 .Λ) code.function) (route-records.clauses 𝓤 H A at-mem run)
   route-records-walks 𝓣 fm known-flat known-steps known-write = walked 𝓤 H A route-records.ended stayed (route-records.clauses 𝓤 H A at-mem run) (WpFn 𝓤 H (𝓣 .C) (𝓣 .Λ) code.function)
@@ -320,7 +320,7 @@ module _ {M : Type 1} (𝓤 : URA M) (H : Heap 𝓤) (A : Atoms 𝓤) (W : Given
   )
 
 route-records-meets : {M : Type 1} (𝓤 : URA M) (H : Heap 𝓤) (A : Atoms 𝓤) (W : Given 𝓤 H A) (at-mem : Memory → SProp 𝓤) (run : Routine → Fun 𝓤) (𝓣 : Tables 𝓤 H)
-    → Triple 𝓤 (𝓣 .C #records·flat-route) (FlatRoute 𝓤 H A at-mem run) → Triple 𝓤 (𝓣 .C #route·steps-of) (StepsOf 𝓤 H A at-mem run)
+    → Triple 𝓤 (𝓣 .C #records·flat-route) (FlatRoute 𝓤 H A at-mem run) → Triple 𝓤 (𝓣 .C #path·steps-of) (StepsOf 𝓤 H A at-mem run)
     → Triple 𝓤 (𝓣 .C #records·write-records) (WriteRecords 𝓤 H A at-mem run)
     → Meets 𝓤 H A route-records.signature (WpFn 𝓤 H (𝓣 .C) (𝓣 .Λ) code.function) (route-records.spec 𝓤 H A at-mem run)
 route-records-meets 𝓤 H A W at-mem run 𝓣 known-flat known-steps known-write =
@@ -334,5 +334,5 @@ route-records-spec 𝓤 H 𝓜 𝓖 𝓡 =
     (tables 𝓤 H 𝓜 𝓡 code.env .C) (tables 𝓤 H 𝓜 𝓡 code.env .Λ) #records·route-records code.function (code.unfolded 𝓤 H 𝓜 𝓡)
     (route-records-meets 𝓤 H (𝓖 .A) (givenOf 𝓤 H 𝓜 𝓖) (𝓜 .mem) (𝓡 .run) (tablesOf 𝓤 H 𝓜 (tables 𝓤 H 𝓜 𝓡 code.env))
     (cited 𝓤 H (FlatRoute 𝓤 H (𝓖 .A) (𝓜 .mem) (𝓡 .run)) 𝓜 𝓡 code.env #records·flat-route flat-route-def.routine code.calls-records·flat-route (flat-route-thm.met 𝓤 H 𝓜 𝓖 𝓡))
-    (cited 𝓤 H (StepsOf 𝓤 H (𝓖 .A) (𝓜 .mem) (𝓡 .run)) 𝓜 𝓡 code.env #route·steps-of steps-of-def.routine code.calls-route·steps·steps-of (steps-of-thm.met 𝓤 H 𝓜 𝓖 𝓡))
+    (cited 𝓤 H (StepsOf 𝓤 H (𝓖 .A) (𝓜 .mem) (𝓡 .run)) 𝓜 𝓡 code.env #path·steps-of steps-of-def.routine code.calls-path·steps·steps-of (steps-of-thm.met 𝓤 H 𝓜 𝓖 𝓡))
     (cited 𝓤 H (WriteRecords 𝓤 H (𝓖 .A) (𝓜 .mem) (𝓡 .run)) 𝓜 𝓡 code.env #records·write-records write-records-def.routine code.calls-records·write-records (write-records-thm.met 𝓤 H 𝓜 𝓖 𝓡)))

@@ -14,9 +14,9 @@ use Rattle.model.specs.LeastPath.{unlinked}
 use Rattle.model.specs.Route.{Found, throughPortals}
 use Rattle.model.specs.Store.{decode}
 use Rattle.graph.specs.Reading.{fits-of, measures-are}
-use Rattle.search.specs.Following.{Linked, graph-is, searched-of, searched-both-ways}
+use Rattle.path.specs.Following.{Linked, graph-is, searched-of, searched-both-ways}
 use Rattle.graph.specs.Near.{portalMoves}
-use Rattle.route.specs.Choosing.{pairRun, runAt, Chosen, chosen-none, chosen-some}
+use Rattle.choice.specs.Choosing.{pairRun, runAt, Chosen, chosen-none, chosen-some}
 use Rattle.route.specs.Finding.{foundAnswer, foundInto, pair-found, pair-paired, pairRoute, none-found}
 use borrow.Author.Needs.{needs}
 use Rattle.route.proofs.find.through_lists.Statement.{statement}

@@ -13,7 +13,7 @@ use Rattle.model.specs.PortalCrossings.{Fits}
 use Rattle.model.specs.Store.{decode}
 use Rattle.model.specs.PortalNumbers.{portal-is}
 use Rattle.graph.specs.Reading.{accepted-of, fits-of, measures-are}
-use Rattle.search.specs.Following.{Linked, graph-is, searched-of, searched-both-ways}
+use Rattle.path.specs.Following.{Linked, graph-is, searched-of, searched-both-ways}
 use Rattle.route.specs.Finding.{taken-few, taken-path, pair-no-room, pair-written}
 use borrow.Author.Needs.{needs}
 use Rattle.route.proofs.find.through_pair.Statement.{statement}

@@ -1,0 +1,27 @@
+-- What read file answers and leaves in the list, in the shapes of its returns.
+use mathlib.Core.Path.{_≡_, refl}
+use mathlib.Core.List.{List}
+use Prim.Native.Nat.{ℕ, _≤_, _<_}
+use lib.ListN.{length}
+use Rattle.model.specs.declared.Measures.{Measures}
+use Rattle.model.specs.declared.Measured.the-variants.{Accepted, Refused}
+use Rattle.model.specs.Store.{measuresAt, baseIn}
+use Rattle.model.specs.Calls.{measured, ifAccepted, readNumber, readAnswer, readInto}
+use Rattle.model.specs.Answers.{ReadAnswers, read-answers}
+use Rattle.store.specs.Checks.{Readable, readable}
+use Rattle.model.specs.Refusals.{none, not-accepted, refused}
+
+module _ (file list : List ℕ) (r : ℕ) (is : r ≡ readNumber file (length list)) where
+  pub read-refused : 0 < r → ReadAnswers file (length list) (Refused r) × (list ≡ readInto file list)
+  unfolding readAnswer readInto
+  read-refused h = (
+    read-answers file (length list) (rw (← is) (refused r r (measuresAt file) h refl)),
+    rw (← is) (not-accepted r (baseIn file (length list)) list h),
+  )
+
+  pub read-on : r ≤ 0 → Readable file (length list)
+  read-on h = readable file (length list) (rw (← is) (none h))
+
+  pub read-accepted : r ≤ 0 → {m : Measures} {out : List ℕ} → m ≡ measuresAt file → out ≡ baseIn file (length list) → ReadAnswers file (length list) (Accepted m) × (out ≡ readInto file list)
+  unfolding readAnswer readInto measured ifAccepted
+  read-accepted h em e = (read-answers file (length list) (rw (← is, none h, em)), rw (← is, none h, e))
