@@ -25,7 +25,7 @@ use Rattle.model.specs.Store.{measuresAt, marksIn, hallIn, decode, written}
 use Rattle.model.specs.Change.{isNearby, rescaled, remarked, changed, exceedsAt, exceeds}
 use Rattle.model.specs.Calls.{ifAccepted}
 use Rattle.store.specs.Layout.{hallOf, hall-read}
-use Rattle.sector_cost.specs.Costs.{Costs}
+use Rattle.walks.specs.Costs.{Costs}
 use Rattle.builder.specs.Marks.{Small}
 use Rattle.builder.specs.Parts.{Changeable, alteredNumber, alteredInto}
 

@@ -11,7 +11,7 @@ use Rattle.model.specs.Store.{measuresAt, sizeOf, decode, written}
 use Rattle.model.specs.Change.{changed, exceeds}
 use Rattle.model.specs.Calls.{ifAccepted}
 use Rattle.store.specs.Checks.{Checked}
-use Rattle.sector_cost.specs.Costs.{Costs}
+use Rattle.walks.specs.Costs.{Costs}
 
 -- what is built
 pub record Buildable (m : Measures) (base st : List ℕ) : Type 0 where

@@ -1,38 +1,27 @@
 // Scaling, and rescaling around a changed cell: document 01, item 7 and "A change". Costs are lists by floor number; walks go over the board.
-mod board;
-mod copies;
 pub mod nearby;
-mod walks;
 
 ghost use mathlib.Core.Path.{_≡_};
 ghost use Prim.Native.Nat.{_+_, _*_, _≤_, _<_};
 ghost use lib.ListN.{length};
 ghost use Rattle.laws.specs.Fold.{run};
-ghost use Rattle.model.specs.Costs.{openAt};
 ghost use Rattle.model.specs.Sectors.{sectors};
 ghost use Rattle.model.specs.Scaling.{scaleCell, scaleSector, scaleFloor};
 ghost use Rattle.model.specs.Change.{resetSector, rescaled};
 ghost use Rattle.model.specs.Nearby.{atNearby};
-ghost use Rattle.sector_cost.specs.Board.{boardOf};
-ghost use Rattle.sector_cost.specs.Costs.{Costs};
-ghost use Rattle.sector_cost.specs.Walks.{Shows};
-use crate::board::corner;
-use crate::board::show_floor;
-use crate::board::walls;
-use crate::copies::copy_part;
+ghost use Rattle.walks.specs.Board.{boardOf};
+ghost use Rattle.walks.specs.Costs.{Costs};
+ghost use Rattle.walks.specs.Walks.{Shows};
 use crate::nearby::is_there;
 use crate::nearby::nearby;
-use crate::walks::scale_in_directions;
 use fields::sectors::sectors;
 use model::Measures;
-
-// Whether a cell of the floor is open.
-pub fn is_open(costs: &[u8], n: usize) -> bool
-    requires { ⌜ n < length (now costs) ⌝ }
-    ensures { λ r. ⌜ r ≡ openAt (now (costs .entry)) n ⌝ }
-{
-    costs[n] != 255
-}
+use walks::board::corner;
+use walks::board::show_floor;
+use walks::board::walls;
+use walks::copies::copy_part;
+use walks::is_open;
+use walks::walk::scale_in_directions;
 
 // The eight walks from a cell, if it is base-blocked.
 fn scale_cell(

@@ -1,7 +1,7 @@
 -- `rescale` resets all nine places before it rescales any; at scale 1 they stay as they were reset.
 use Rattle.model.specs.Change.{forNearby, rescaled}
 use Rattle.sector_cost.specs.One.{rescaled-reset}
-use Rattle.sector_cost.specs.Showing.{showing-none}
+use Rattle.walks.specs.Showing.{showing-none}
 use borrow.Author.Needs.{needs}
 use Rattle.sector_cost.proofs.rescale.Statement.{statement}
 use Rattle.sector_cost.proofs.rescale.Tie as tie

@@ -4,7 +4,7 @@ use denote.Ref.{now}
 use Rattle.model.specs.Scaling.{scaleFloor}
 use Rattle.model.specs.ScaleOne.{floor-one}
 use Rattle.laws.specs.Region.{copied}
-use Rattle.sector_cost.specs.Showing.{showing-none}
+use Rattle.walks.specs.Showing.{showing-none}
 use borrow.Author.Needs.{needs}
 use Rattle.sector_cost.proofs.scale_all_costfields.Statement.{statement}
 use Rattle.sector_cost.proofs.scale_all_costfields.Tie as tie

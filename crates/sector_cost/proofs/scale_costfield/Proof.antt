@@ -3,8 +3,8 @@ use Prim.Native.Nat.{_-_}
 use native.Mathlib.Omega.{arith}
 use Rattle.laws.specs.Fold.{Ran, counting}
 use Rattle.model.specs.Scaling.{scaleCell, scaleSector}
-use Rattle.sector_cost.specs.Board.{board-long}
-use Rattle.sector_cost.specs.Walks.{Shows, shows-long}
+use Rattle.walks.specs.Board.{board-long}
+use Rattle.walks.specs.Walks.{Shows, shows-long}
 use borrow.Author.Needs.{needs}
 use Rattle.sector_cost.proofs.scale_costfield.Statement.{statement}
 use Rattle.sector_cost.proofs.scale_costfield.Tie as tie

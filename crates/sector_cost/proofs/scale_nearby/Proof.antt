@@ -5,7 +5,7 @@ use mathlib.Core.Path.{_≡_}
 use Rattle.laws.specs.Fold.{Ran, counting}
 use Rattle.model.specs.Scaling.{scaleSector}
 use Rattle.model.specs.Nearby.{atNearby}
-use Rattle.sector_cost.specs.Board.{boardOf, board-long}
+use Rattle.walks.specs.Board.{boardOf, board-long}
 use borrow.Author.Needs.{needs}
 use Rattle.sector_cost.proofs.scale_nearby.Statement.{statement}
 use Rattle.sector_cost.proofs.scale_nearby.Tie as tie

@@ -4,7 +4,7 @@ use native.Mathlib.Omega.{arith}
 use mathlib.Core.Path.{_≡_}
 use Rattle.laws.specs.Fold.{Ran, counting}
 use Rattle.model.specs.Scaling.{scaleSector}
-use Rattle.sector_cost.specs.Board.{boardOf, board-long}
+use Rattle.walks.specs.Board.{boardOf, board-long}
 use borrow.Author.Needs.{needs}
 use Rattle.sector_cost.proofs.scale_sectors.Statement.{statement}
 use Rattle.sector_cost.proofs.scale_sectors.Tie as tie

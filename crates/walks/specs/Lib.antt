@@ -1,0 +1,6 @@
+pub mod Costs
+pub mod Copies
+pub mod Lines
+pub mod Board
+pub mod Showing
+pub mod Walks
