@@ -2,7 +2,8 @@
 ghost use mathlib.Core.Path.{_≡_};
 ghost use Prim.Native.Nat.{_/_};
 ghost use lib.ListN.{length};
-ghost use Rattle.model.specs.Calls.{measuresOf, buildNumber, routeAnswer, routeFlat, storeAfterCall, storeAfter};
+ghost use Rattle.model.specs.Calls.{measuresOf, buildNumber, routeFlat, storeAfterCall, storeAfter};
+ghost use Rattle.model.specs.Answers.{RouteAnswers};
 ghost use Rattle.audit.specs.Claim.{Demand3};
 ghost use Rattle.journey.specs.Journey.{callOf, callsIn, stepsAfterCall, stepsAfter, reachSteps, journeyAnswer, journeyInto, journeySteps};
 ghost use Rattle.journey.specs.Parts.{Reaches, ClaimsReached};
@@ -60,7 +61,7 @@ pub fn reach(
 
 // A route call that may come last: on a reached hall its answer keeps the claim of demand 3.
 pub fn route_reached(st: &[u8], source: usize, goal: usize, steps: &mut [u8]) -> Routed
-    ensures answer { λ r. ⌜ r ≡ routeAnswer (now (st .entry)) source goal (length (now (steps .entry)) / 6) ⌝ }
+    ensures answer { λ r. ⌜ RouteAnswers (now (st .entry)) source goal (length (now (steps .entry)) / 6) r ⌝ }
     ensures steps { λ _. ⌜ now (steps .exit) ≡ routeFlat (now (st .entry)) source goal (now (steps .entry)) ⌝ }
     ensures claim { λ r. ⌜ ClaimsReached (now (st .entry)) source goal (length (now (steps .entry)) / 6) r ⌝ }
 {

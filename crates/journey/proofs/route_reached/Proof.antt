@@ -6,7 +6,7 @@ use Rattle.journey.proofs.route_reached.Statement.{statement}
 use Rattle.journey.proofs.route_reached.Tie as tie
 
 returns : tie.Need-returns
-returns c = (search (needs, route-case), (search needs, answer-claims _ _ _ _ (search (needs, route-case))))
+returns c = (search needs, (search needs, answer-claims _ _ _ _ (search (needs, route-case))))
 
 pub route-reached-spec : {M : Type 1} → statement M
 route-reached-spec = tie.close (tie.spec (λ c κs. search needs) (λ c. search needs) returns)
