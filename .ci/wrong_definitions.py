@@ -3,6 +3,7 @@
 
 An edit changes files of `model` or `laws` in a copy of the repository that has the named file of `audit` and what that
 file rests on, and nothing else: so it is the named table or theorem that tells the wrong definition from the right one.
+Where `laws` is not edited it is taken whole, as the gate has proved it.
 An edit has the form of a must-fail edit, with the crate before the file, and says which file must refuse it:
 
     # what is wrong
@@ -54,12 +55,26 @@ def rests_on(file, found):
     return found
 
 
-def copy_part(refuser, folder):
+def copy_proved(name, folder):
+    """A crate that no replacement is in, with the proof that the gate left of it, if there is one."""
+    shutil.copytree(TOP / "crates" / name, folder / "crates" / name)
+    for proved in (f"rlib/{name}.rlib", f"stamp/{name}"):
+        if (TOP / "target" / proved).is_dir():
+            shutil.copytree(TOP / "target" / proved, folder / "target" / proved)
+        elif (TOP / "target" / proved).exists():
+            (folder / "target" / proved).parent.mkdir(parents=True, exist_ok=True)
+            shutil.copy(TOP / "target" / proved, folder / "target" / proved)
+
+
+def copy_part(refuser, edited, folder):
     """A repository of the named file and what it rests on."""
     wanted = rests_on(refuser, set())
     listed = [line for line in (TOP / "crates.txt").read_text().splitlines() if line.split(":")[0] in CRATES]
     (folder / "crates.txt").write_text("\n".join(listed) + "\n")
     for name in CRATES:
+        if name == "laws" and name not in edited:
+            copy_proved(name, folder)
+            continue
         shutil.copytree(TOP / "crates" / name / "src", folder / "crates" / name / "src")
         specs = folder / "crates" / name / "specs"
         specs.mkdir()
@@ -86,7 +101,7 @@ def try_edit(path):
     pairs, refuser = read_edit(path)
     with tempfile.TemporaryDirectory() as scratch:
         folder = pathlib.Path(scratch)
-        copy_part(refuser, folder)
+        copy_part(refuser, {file.split("/")[0] for file, _, _ in pairs}, folder)
         hindered = apply(pairs, folder)
         if hindered:
             return hindered
