@@ -23,6 +23,7 @@ KEPT = {
     "hall_route/src": "the public calls",
     "hall_c/src": "the calls for C",
     "journey/src": "demand 3 of the calls",
+    "reach/src": "demand 3 of the calls",
     "records/src": "the route call on step records",
     "hallroute/specs/Printed.antt": "what the program prints, for its reader",
     "model/specs/PlainFloor.antt:landing-on": "01's landings as plain floor arithmetic, for their reader",

@@ -6,23 +6,15 @@ use mathlib.Core.List.{List}
 use Rattle.model.specs.declared.Measures.{Measures}
 use Rattle.model.specs.declared.Routed.{Routed}
 use Rattle.model.specs.Account.{Call, Account, opening, accountAfter}
-use Rattle.model.specs.Calls.{ifAccepted, buildNumber, routeAnswer}
-use Rattle.audit.specs.Reached.{ChangesOnlyAtScale1, Reached, reached}
+use Rattle.model.specs.Calls.{buildNumber, routeAnswer}
+use Rattle.audit.specs.Reached.{Reached}
 use Rattle.audit.specs.Claim.{LastCall, Claim, Demand3}
 use Rattle.audit.specs.Demand3.{route-claims}
-use Rattle.journey.specs.Journey.{journeyInto}
-
--- st is what build by m and base in the store lent, and the calls of the list, leave
-pub record Reaches (m : Measures) (base lent : List ℕ) (list : List Call) (st : List ℕ) : Type 0 where
-  pub reaches : buildNumber m base lent ≡ 0 → ChangesOnlyAtScale1 m base lent list → Reached (accountAfter (opening m base) list) lent st
+use Rattle.reach.specs.Reach.{Reaches}
 
 -- r is what a route call on the store st answered
 pub record ClaimsReached (st : List ℕ) (source goal room : ℕ) (r : Routed) : Type 0 where
   pub claims : (a : Account) (lent : List ℕ) → Reached a lent st → LastCall a source goal room → Claim a source goal r
-
-pub into-reaches : (m : Measures) (base lent : List ℕ) (list : List Call) {st : List ℕ} → st ≡ journeyInto m base lent list → Reaches m base lent list st
-unfolding journeyInto ifAccepted
-into-reaches m base lent list e = record { reaches = λ accepted only. rw (e, accepted) (reached m base lent accepted list only) }
 
 pub answer-claims : (st : List ℕ) (source goal room : ℕ) {r : Routed} → r ≡ routeAnswer st source goal room → ClaimsReached st source goal room r
 answer-claims st source goal room e = record { claims = λ a lent there asked. rw e (route-claims there asked) }

@@ -1,5 +1,5 @@
 -- `route_after` is `reach` and then `route_reached`; the promises of both together are demand 3.
-use Rattle.journey.proofs.Calling.{journeying}
+use Rattle.journey.proofs.Asking.{journeying}
 use Rattle.model.specs.Answers.{route-case}
 use borrow.Author.Needs.{needs}
 use Rattle.journey.proofs.route_after.Statement.{statement}

@@ -1,8 +1,8 @@
 -- `make_call` leaves store and step list as the call of its kind does.
 use borrow.Author.Needs.{needs}
-use Rattle.journey.proofs.Calling.{calling}
-use Rattle.journey.proofs.make_call.Statement.{statement}
-use Rattle.journey.proofs.make_call.Tie as tie
+use Rattle.reach.proofs.Calling.{calling}
+use Rattle.reach.proofs.make_call.Statement.{statement}
+use Rattle.reach.proofs.make_call.Tie as tie
 
 pub make-call-spec : {M : Type 1} → statement M
 make-call-spec =

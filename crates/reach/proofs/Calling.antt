@@ -1,4 +1,4 @@
--- Facts for the proofs: one call by its kind, calls made in turn, and what a journey answers and leaves.
+-- Facts for the proofs: one call by its kind, calls made in turn, and what build and the calls leave.
 use Prim.Native.Nat.{ℕ, suc, _+_, _-_, _/_, _%_, _≤_, _<_}
 use native.Mathlib.Omega.{arith}
 use mathlib.Core.Path.{_≡_, refl, sym, _∙_}
@@ -8,15 +8,11 @@ use lib.ListN.{length, getD, drop, length-drop}
 use lib.Seq.{drop-cons}
 use borrow.Author.Tests.{eq-eqb, ne-eqb}
 use Rattle.model.specs.declared.Measures.{Measures}
-use Rattle.model.specs.declared.Routed.{Routed}
-use Rattle.model.specs.declared.Routed.the-variants.{Refused}
 use Rattle.model.specs.Account.{Call}
-use Rattle.model.specs.Calls.{ifAccepted, buildNumber, buildInto, changeInto, routeAnswer, routeFlat, storeAfterCall, storeAfter}
+use Rattle.model.specs.Calls.{ifAccepted, buildNumber, buildInto, changeInto, routeFlat, storeAfterCall, storeAfter}
 use Rattle.model.specs.Refusals.{none, not-accepted}
 use Rattle.hall.proofs.Building.{build-kept}
-use Rattle.audit.specs.Claim.{Demand3}
-use Rattle.journey.specs.Journey.{callOf, callsIn, stepsAfterCall, stepsAfter, reachSteps, journeyAnswer, journeyInto, journeySteps}
-use Rattle.journey.specs.Parts.{Reaches, ClaimsReached, parts-promise, refused-promise}
+use Rattle.reach.specs.Reach.{callOf, callsIn, stepsAfterCall, stepsAfter, reachInto, reachSteps}
 
 -- ---- one call
 module _ (room kind a b : ℕ) (st steps : List ℕ) where
@@ -101,31 +97,20 @@ module _ {calls : List ℕ} {at : ℕ} {st₀ steps₀ st steps : List ℕ} (m :
 
 pub ruleset making = (made-none, made-turn, made-store, made-steps)
 
--- ---- build, the calls, and the last route call
-module _ (m : Measures) (base lent : List ℕ) (list : List Call) (source goal : ℕ) (steps : List ℕ) {number : ℕ} (is : number ≡ buildNumber m base lent) where
+-- ---- build and the calls
+module _ (m : Measures) (base lent : List ℕ) (list : List Call) (steps : List ℕ) {number : ℕ} (is : number ≡ buildNumber m base lent) where
   -- build refuses
   module _ (refused : 0 < number) where
-    old-kept : {A : Type 0} (new old : A) → old ≡ ifAccepted (buildNumber m base lent) new old
+    pub old-kept : {A : Type 0} (new old : A) → old ≡ ifAccepted (buildNumber m base lent) new old
     old-kept new old = rw (← is) (not-accepted number new old refused)
 
-    pub refused-store : {out : List ℕ} → out ≡ buildInto m base lent → out ≡ journeyInto m base lent list
-    unfolding journeyInto
+    pub refused-store : {out : List ℕ} → out ≡ buildInto m base lent → out ≡ reachInto m base lent list
+    unfolding reachInto
     refused-store e = e ∙ sym (build-kept m base lent is refused) ∙ old-kept (storeAfter (buildInto m base lent) list) lent
 
     pub refused-steps : steps ≡ reachSteps m base lent list steps
     unfolding reachSteps
     refused-steps = old-kept (stepsAfter (buildInto m base lent) list steps) steps
-
-    pub refused-answer : Refused number ≡ journeyAnswer m base lent list source goal (length steps / 6)
-    unfolding journeyAnswer
-    refused-answer = rw (← is) (not-accepted number (routeAnswer (storeAfter (buildInto m base lent) list) source goal (length steps / 6)) (Refused number) refused)
-
-    pub refused-last : {out : List ℕ} → out ≡ reachSteps m base lent list steps → out ≡ journeySteps m base lent list source goal steps
-    unfolding journeySteps
-    refused-last e = e ∙ sym refused-steps ∙ old-kept (routeFlat (storeAfter (buildInto m base lent) list) source goal (stepsAfter (buildInto m base lent) list steps)) steps
-
-    pub refused-keeps : {r : Routed} → Demand3 m base lent list source goal (length steps / 6) r
-    refused-keeps = refused-promise (rw is at refused)
 
   -- build accepts
   module _ (accepted : number ≤ 0) where
@@ -134,30 +119,12 @@ module _ (m : Measures) (base lent : List ℕ) (list : List Call) (source goal :
 
     -- `first` is the store that it leaves
     module _ {first : List ℕ} (built : first ≡ buildInto m base lent) where
-      pub reached-store : {st : List ℕ} → st ≡ storeAfter first list → st ≡ journeyInto m base lent list
-      unfolding journeyInto ifAccepted
+      pub reached-store : {st : List ℕ} → st ≡ storeAfter first list → st ≡ reachInto m base lent list
+      unfolding reachInto ifAccepted
       reached-store e = e ∙ rw (← accepted-answer, built)
 
       pub reached-steps : {used : List ℕ} → used ≡ stepsAfter first list steps → used ≡ reachSteps m base lent list steps
       unfolding reachSteps ifAccepted
       reached-steps e = e ∙ rw (← accepted-answer, built)
 
-    -- `st` with `used` is what the calls leave of store and step list
-    module _ {st : List ℕ} (made : st ≡ journeyInto m base lent list) where
-      pub asked-answer : (used : List ℕ) {r : Routed} → r ≡ routeAnswer st source goal (length used / 6) → length used ≡ length steps
-          → r ≡ journeyAnswer m base lent list source goal (length steps / 6)
-      unfolding journeyAnswer journeyInto ifAccepted
-      asked-answer used e same = e ∙ rw (made, ← accepted-answer, same)
-
-      pub asked-steps : {used out : List ℕ} → used ≡ reachSteps m base lent list steps → out ≡ routeFlat st source goal used → out ≡ journeySteps m base lent list source goal steps
-      unfolding journeySteps journeyInto reachSteps ifAccepted
-      asked-steps u e = e ∙ rw (u, made, ← accepted-answer)
-
-pub asked-keeps : {m : Measures} {base lent : List ℕ} {list : List Call} {st : List ℕ} {source goal : ℕ} (steps used : List ℕ) {r : Routed}
-    → Reaches m base lent list st → ClaimsReached st source goal (length used / 6) r → length used ≡ length steps
-    → Demand3 m base lent list source goal (length steps / 6) r
-asked-keeps steps used there last same = rw (← same) (parts-promise there last)
-
 pub ruleset reaching = (refused-store, refused-steps, accepted-answer, reached-store, reached-steps)
-
-pub ruleset journeying = (refused-answer, refused-last, refused-keeps, asked-answer, asked-steps, asked-keeps)

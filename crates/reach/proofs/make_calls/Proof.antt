@@ -1,10 +1,10 @@
 -- `make_calls` makes the calls of its list in turn: those that are left lead to where all lead from the start.
 use Prim.Native.Nat.{_-_}
 use lib.ListN.{length}
-use Rattle.journey.proofs.Calling.{Made, making}
+use Rattle.reach.proofs.Calling.{Made, making}
 use borrow.Author.Needs.{needs}
-use Rattle.journey.proofs.make_calls.Statement.{statement}
-use Rattle.journey.proofs.make_calls.Tie as tie
+use Rattle.reach.proofs.make_calls.Statement.{statement}
+use Rattle.reach.proofs.make_calls.Tie as tie
 
 abbrev Inv-loop : tie.InvT-loop
 Inv-loop calls st₀ steps₀ at₀ st steps at = Made calls at st₀ steps₀ st steps

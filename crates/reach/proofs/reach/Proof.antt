@@ -1,9 +1,9 @@
 -- `reach` gives build's number, leaves what build and the calls do, and the hall that it leaves is reached.
-use Rattle.journey.specs.Parts.{into-reaches}
-use Rattle.journey.proofs.Calling.{reaching}
+use Rattle.reach.specs.Reach.{into-reaches}
+use Rattle.reach.proofs.Calling.{reaching}
 use borrow.Author.Needs.{needs}
-use Rattle.journey.proofs.reach.Statement.{statement}
-use Rattle.journey.proofs.reach.Tie as tie
+use Rattle.reach.proofs.reach.Statement.{statement}
+use Rattle.reach.proofs.reach.Tie as tie
 
 returns : tie.Need-returns
 returns c = (search (needs, reaching), (search (needs, reaching), (search (needs, reaching), into-reaches _ _ _ _ (search (needs, reaching)))))
