@@ -1,4 +1,4 @@
--- The least costs as a function: sweeps over all arcs until nothing is lowered (Bellman and Ford). `least-costs-settled` says that it gives the least costs.
+-- The least costs as a function: sweeps over all arcs, there and back, until nothing is lowered (Bellman and Ford). `least-costs-settled` says that it gives the least costs.
 use Prim.Native.Nat.{ℕ, zero, suc, _+_, _≤_, _<_}
 use native.Mathlib.Decide.{ℕ-discrete}
 use native.Mathlib.Omega.{arith}
@@ -22,21 +22,39 @@ offers g d e = ltb 0 (g .weight e) && ltb (getD d (g .tail e) 0 + g .weight e) (
 unfoldable pub relaxed : Graph → List ℕ → ℕ → List ℕ
 relaxed g d e = pick (offers g d e) (set d (g .head e) (getD d (g .tail e) 0 + g .weight e)) d
 
--- the list after arcs 0 to n - 1
-unfoldable pub swept : Graph → List ℕ → ℕ → List ℕ
-swept g d zero = d
-swept g d (suc n) = relaxed g (swept g d n) n
+-- an arc that is there: its ends and its weight
+pub record Link : Type 0 where
+  pub from : ℕ
+  pub to : ℕ
+  pub weight : ℕ
+
+abbrev pub linkAt : Graph → ℕ → Link
+linkAt g e = record { from = g .tail e; to = g .head e; weight = g .weight e }
+
+-- those of arcs 0 to n - 1 that are there
+unfoldable pub links : Graph → ℕ → List Link
+links g zero = []
+links g (suc n) = let rest = links g n in pick (ltb 0 (g .weight n)) (linkAt g n ∷ rest) rest
+
+-- the list after a link: the end that it leads to takes the offer where it is less
+unfoldable pub lowered : List ℕ → Link → List ℕ
+lowered d l = let x = getD d (l .from) 0 + l .weight in pick (ltb x (getD d (l .to) 0)) (set d (l .to) x) d
+
+-- the list after all links, from the first to the last and back to the first
+unfoldable pub swept : List Link → List ℕ → List ℕ
+swept [] d = d
+swept (l ∷ ls) d = lowered (swept ls (lowered d l)) l
 
 unfoldable pub total : List ℕ → ℕ
 total [] = 0
 total (x ∷ xs) = x + total xs
 
 -- sweeps until one lowers nothing; n bounds their number
-unfoldable pub sweeps : Graph → ℕ → List ℕ → List ℕ
-sweeps g zero d = d
-sweeps g (suc n) d =
-    let f = swept g d (g .arcs) in
-    elim (ltb (total f) (total d)) [ true ↦ sweeps g n f | false ↦ d ]
+unfoldable pub sweeps : List Link → ℕ → List ℕ → List ℕ
+sweeps ls zero d = d
+sweeps ls (suc n) d =
+    let f = swept ls d in
+    elim (ltb (total f) (total d)) [ true ↦ sweeps ls n f | false ↦ d ]
 
 -- before the first sweep: 0 at s and top elsewhere
 unfoldable pub outset : Graph → ℕ → ℕ → List ℕ
@@ -44,7 +62,7 @@ outset g s top = set (replicate (g .nodes) top) s 0
 
 -- the least cost from s to each node, and top where there is no walk
 unfoldable pub least-costs : Graph → ℕ → ℕ → List ℕ
-least-costs g s top = sweeps g (suc (total (outset g s top))) (outset g s top)
+least-costs g s top = sweeps (links g (g .arcs)) (suc (total (outset g s top))) (outset g s top)
 
 -- ---- the laws
 total-set : (d : List ℕ) (i x : ℕ) → i < length d → x < getD d i 0 → total (set d i x) < total d
@@ -84,9 +102,43 @@ relaxed-cases g d e = go (ltb 0 w) (ltb o h) refl refl
     go true false a b = kept (λ _. ltb-false o h b) refl
     go false q a b = kept (λ p. absurd (omega (arith, ltb-false 0 w a))) refl
 
--- f is d, which none of the first n arcs offers less, or its total is less
-abbrev Fallen : Graph → List ℕ → ℕ → List ℕ → Type 0
-Fallen g d n f = ((f ≡ d) × ((e : ℕ) → e < n → Low g d e)) ⊎ (total f < total d)
+-- a link's offer is that of its arc
+lowered-cases : (g : Graph) (d : List ℕ) (e : ℕ) → 0 < g .weight e → Relaxed g d e (lowered d (linkAt g e))
+unfolding lowered
+lowered-cases g d e p = go (ltb o (getD d (g .head e) 0)) refl
+  where
+    o : ℕ
+    o = getD d (g .tail e) 0 + g .weight e
+
+    go : (b : Bool) → ltb o (getD d (g .head e) 0) ≡ b → Relaxed g d e (pick b (set d (g .head e) o) d)
+    go true q = taken p (ltb-true o (getD d (g .head e) 0) q) refl
+    go false q = kept (λ _. ltb-false o (getD d (g .head e) 0) q) refl
+
+-- f is d, and this holds of d, or its total is less
+abbrev Fallen : List ℕ → List ℕ → Type 0 → Type 0
+Fallen d f P = ((f ≡ d) × P) ⊎ (total f < total d)
+
+fallen-le : {d f : List ℕ} {P : Type 0} → Fallen d f P → total f ≤ total d
+fallen-le (inl k) = omega (arith, ap total (k .0))
+fallen-le (inr k) = omega arith
+
+-- none of the first n arcs offers less
+abbrev Lows : Graph → List ℕ → ℕ → Type 0
+Lows g d n = (e : ℕ) → e < n → Low g d e
+
+one-more : (g : Graph) (d : List ℕ) (n : ℕ) → Lows g d n → Low g d n → Lows g d (suc n)
+one-more g d n below now e i = go (ℕ-discrete e n)
+  where
+    go : Dec (e ≡ n) → Low g d e
+    go (yes q) = rw q now
+    go (no q) = below e (omega arith)
+
+-- a link, the links below it, and the link again: d, then a, then b, then f
+there-and-back : (g : Graph) (n : ℕ) {d a b f : List ℕ} → Fallen d a (Low g d n) → Fallen a b (Lows g a n) → Fallen b f (Low g b n) → Fallen d f (Lows g d (suc n))
+there-and-back g n (inr p) q r = inr (omega (arith, fallen-le q, fallen-le r))
+there-and-back g n (inl p) (inr q) r = inr (omega (arith, ap total (p .0), fallen-le r))
+there-and-back g n (inl p) (inl q) (inr r) = inr (omega (arith, ap total (p .0), ap total (q .0)))
+there-and-back g n {d} (inl p) (inl q) (inl r) = inl (r .0 ∙ q .0 ∙ p .0, one-more g d n (rw (p .0) at (q .1)) (p .1))
 
 module _ {g : Graph} {s top : ℕ} (sound : Sound g) where
   -- an arc's offer is taken: the list stays rough
@@ -106,45 +158,45 @@ module _ {g : Graph} {s top : ℕ} (sound : Sound g) where
         made = set-each (λ (v y : ℕ). v < g .nodes → y < top → Walk g s v y) d h x long (λ _ _. along e l p refl (r .made (g .tail e) in-t (omega arith)) refl) (λ v _. r .made v);
       }
 
-  -- after the first n arcs
-  swept-rough : {d : List ℕ} → Rough g s top d → (n : ℕ) → n ≤ g .arcs → Rough g s top (swept g d n) × Fallen g d n (swept g d n)
-  unfolding swept
-  swept-rough r zero l = (r, inl (refl, λ e h. absurd (omega arith)))
-  swept-rough {d} r (suc n) l = go (swept-rough r n (omega arith)) (relaxed-cases g (swept g d n) n)
+  -- after one arc
+  relaxed-rough : {d f : List ℕ} {e : ℕ} → Rough g s top d → e < g .arcs → Relaxed g d e f → Rough g s top f × Fallen d f (Low g d e)
+  relaxed-rough {d} {f} {e} r l (taken p o q) =
+      let long : g .head e < length d = omega (arith, r .sized, sound .head-in e l p) in
+      rw q (lowered-rough r e l p o, inr (total-set d (g .head e) (getD d (g .tail e) 0 + g .weight e) long o))
+  relaxed-rough r l (kept low q) = rw q (r, inl (refl, low))
+
+  -- after the links of the first n arcs
+  swept-rough : (n : ℕ) → n ≤ g .arcs → {d : List ℕ} → Rough g s top d → Rough g s top (swept (links g n) d) × Fallen d (swept (links g n) d) (Lows g d n)
+  unfolding swept links
+  swept-rough zero l r = (r, inl (refl, λ e h. absurd (omega arith)))
+  swept-rough (suc n) l {d} r = go (λ x q. swept-rough n (omega arith) {d = x} q) (ltb 0 (g .weight n)) refl
     where
-      f : List ℕ
-      f = swept g d n
-
-      no-more : Fallen g d n f → total f ≤ total d
-      no-more (inl k) = omega (arith, ap total (k .0))
-      no-more (inr k) = omega arith
-
-      go : Rough g s top f × Fallen g d n f → {x : List ℕ} → Relaxed g f n x → Rough g s top x × Fallen g d (suc n) x
-      go h (taken p o q) =
-          let long : g .head n < length f = omega (arith, h .0 .sized, sound .head-in n l p) in
-          rw q (lowered-rough (h .0) n l p o, inr (omega (arith, total-set f (g .head n) (getD f (g .tail n) 0 + g .weight n) long o, no-more (h .1))))
-      go h (kept low q) = rw q (h .0, still (h .1))
+      go : ((x : List ℕ) → Rough g s top x → Rough g s top (swept (links g n) x) × Fallen x (swept (links g n) x) (Lows g x n))
+          → (b : Bool) → ltb 0 (g .weight n) ≡ b
+          → Rough g s top (swept (pick b (linkAt g n ∷ links g n) (links g n)) d) × Fallen d (swept (pick b (linkAt g n ∷ links g n) (links g n)) d) (Lows g d (suc n))
+      go rec true e =
+          let there = relaxed-rough r l (lowered-cases g d n (ltb-true 0 (g .weight n) e)) in
+          let below = rec (lowered d (linkAt g n)) (there .0) in
+          let back = relaxed-rough (below .0) l (lowered-cases g (swept (links g n) (lowered d (linkAt g n))) n (ltb-true 0 (g .weight n) e)) in
+          (back .0, there-and-back g n (there .1) (below .1) (back .1))
+      go rec false e = let below = rec d r in (below .0, more (below .1))
         where
-          still : Fallen g d n f → Fallen g d (suc n) f
-          still (inr k) = inr k
-          still (inl k) = inl (k .0, λ e i. each e i (ℕ-discrete e n))
-            where
-              each : (e : ℕ) → e < suc n → Dec (e ≡ n) → Low g d e
-              each e i (yes q) = rw (q, ← (k .0)) low
-              each e i (no q) = k .1 e (omega arith)
+          more : {f : List ℕ} → Fallen d f (Lows g d n) → Fallen d f (Lows g d (suc n))
+          more (inl k) = inl (k .0, one-more g d n (k .1) (λ p. absurd (omega (arith, ltb-false 0 (g .weight n) e))))
+          more (inr k) = inr k
 
   -- sweeps end in the certificate, where more are allowed than the total
-  sweeps-settled : (n : ℕ) {d : List ℕ} → Rough g s top d → total d < n → Settled g s top (sweeps g n d)
+  sweeps-settled : (n : ℕ) {d : List ℕ} → Rough g s top d → total d < n → Settled g s top (sweeps (links g (g .arcs)) n d)
   unfolding sweeps
   sweeps-settled zero r l = absurd (omega arith)
-  sweeps-settled (suc n) {d} r l = go (λ f q k. sweeps-settled n {d = f} q k) (swept-rough r (g .arcs) (omega arith)) (ltb (total (swept g d (g .arcs))) (total d)) refl
+  sweeps-settled (suc n) {d} r l = go (λ f q k. sweeps-settled n {d = f} q k) (swept-rough (g .arcs) (omega arith) r) (ltb (total f) (total d)) refl
     where
       f : List ℕ
-      f = swept g d (g .arcs)
+      f = swept (links g (g .arcs)) d
 
-      go : ((x : List ℕ) → Rough g s top x → total x < n → Settled g s top (sweeps g n x))
-          → Rough g s top f × Fallen g d (g .arcs) f
-          → (b : Bool) → ltb (total f) (total d) ≡ b → Settled g s top (elim (ltb (total f) (total d)) [ true ↦ sweeps g n f | false ↦ d ])
+      go : ((x : List ℕ) → Rough g s top x → total x < n → Settled g s top (sweeps (links g (g .arcs)) n x))
+          → Rough g s top f × Fallen d f (Lows g d (g .arcs))
+          → (b : Bool) → ltb (total f) (total d) ≡ b → Settled g s top (elim (ltb (total f) (total d)) [ true ↦ sweeps (links g (g .arcs)) n f | false ↦ d ])
       go rec h true e = rw e (rec f (h .0) (omega (arith, ltb-true (total f) (total d) e)))
       go rec (q, inl h) false e = rw e (record { rough = r; low = h .1 })
       go rec (q, inr h) false e = absurd (omega (arith, ltb-false (total f) (total d) e))
