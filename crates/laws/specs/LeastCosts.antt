@@ -1,8 +1,8 @@
 -- The least costs as a function: sweeps over all arcs, there and back, until nothing is lowered (Bellman and Ford). `least-costs-settled` says that it gives the least costs.
-use Prim.Native.Nat.{ℕ, zero, suc, _+_, _≤_, _<_}
+use Prim.Native.Nat.{ℕ, zero, suc, _+_, _-_, _*_, _^_, _≤_, _<_}
 use native.Mathlib.Decide.{ℕ-discrete}
 use native.Mathlib.Omega.{arith}
-use mathlib.Core.Path.{_≡_, refl, ap, _∙_}
+use mathlib.Core.Path.{_≡_, refl, sym, ap, _∙_}
 use mathlib.Core.Logic.{_⊎_, inl, inr, _≢_}
 use mathlib.Core.List.{List, [], _∷_}
 use mathlib.Core.Bool.{Bool, true, false, _&&_}
@@ -11,9 +11,55 @@ use lib.Seq.{getD-set-same, getD-set-other}
 use lib.Dec.{ltb}
 use borrow.Author.Tests.{ltb-true, ltb-false}
 use Rattle.laws.specs.Fold.{pick}
+use Rattle.laws.specs.Digits.{packed, digit, unpacked, Below, digit-packed, lowered-digit, unpacked-packed}
 use Rattle.laws.specs.Graph.{Graph, Sound, Walk, stay, along, Rough, Low, Settled}
 
 -- ---- the function
+-- The costs of all nodes are kept as the digits of one number, in base top + 1.
+-- An arc that is there: the places of the digits of its ends, and its weight.
+pub record Link : Type 0 where
+  pub from : ℕ
+  pub to : ℕ
+  pub weight : ℕ
+
+abbrev pub linkAt : ℕ → Graph → ℕ → Link
+linkAt b g e = record { from = b ^ g .tail e; to = b ^ g .head e; weight = g .weight e }
+
+-- those of arcs 0 to n - 1 that are there
+unfoldable pub links : ℕ → Graph → ℕ → List Link
+links b g zero = []
+links b g (suc n) = let rest = links b g n in pick (ltb 0 (g .weight n)) (linkAt b g n ∷ rest) rest
+
+-- the costs after a link: the end that it leads to takes its offer, where that is less
+unfoldable pub lowered : ℕ → ℕ → Link → ℕ
+lowered b d l =
+    let x = digit b d (l .from) + l .weight in
+    let y = digit b d (l .to) in
+    pick (ltb x y) (d - (y - x) * l .to) d
+
+-- the costs after all links, from the first to the last and back to the first
+unfoldable pub swept : ℕ → List Link → ℕ → ℕ
+swept b [] d = d
+swept b (l ∷ ls) d = lowered b (swept b ls (lowered b d l)) l
+
+-- sweeps until one lowers nothing; n bounds their number
+unfoldable pub sweeps : ℕ → List Link → ℕ → ℕ → ℕ
+sweeps b ls zero d = d
+sweeps b ls (suc n) d =
+    let f = swept b ls d in
+    elim (ltb f d) [ true ↦ sweeps b ls n f | false ↦ d ]
+
+-- before the first sweep: 0 at s and top elsewhere
+unfoldable pub outset : Graph → ℕ → ℕ → List ℕ
+outset g s top = set (replicate (g .nodes) top) s 0
+
+-- the least cost from s to each node, and top where there is no walk
+unfoldable pub least-costs : Graph → ℕ → ℕ → List ℕ
+least-costs g s top =
+    let d = packed (suc top) (outset g s top) in
+    unpacked (suc top) (g .nodes) (sweeps (suc top) (links (suc top) g (g .arcs)) (suc d) d)
+
+-- ---- one arc at a time, on a list
 -- arc e offers its head less than the head has
 unfoldable pub offers : Graph → List ℕ → ℕ → Bool
 offers g d e = ltb 0 (g .weight e) && ltb (getD d (g .tail e) 0 + g .weight e) (getD d (g .head e) 0)
@@ -22,55 +68,11 @@ offers g d e = ltb 0 (g .weight e) && ltb (getD d (g .tail e) 0 + g .weight e) (
 unfoldable pub relaxed : Graph → List ℕ → ℕ → List ℕ
 relaxed g d e = pick (offers g d e) (set d (g .head e) (getD d (g .tail e) 0 + g .weight e)) d
 
--- an arc that is there: its ends and its weight
-pub record Link : Type 0 where
-  pub from : ℕ
-  pub to : ℕ
-  pub weight : ℕ
-
-abbrev pub linkAt : Graph → ℕ → Link
-linkAt g e = record { from = g .tail e; to = g .head e; weight = g .weight e }
-
--- those of arcs 0 to n - 1 that are there
-unfoldable pub links : Graph → ℕ → List Link
-links g zero = []
-links g (suc n) = let rest = links g n in pick (ltb 0 (g .weight n)) (linkAt g n ∷ rest) rest
-
--- the list after a link: the end that it leads to takes the offer where it is less
-unfoldable pub lowered : List ℕ → Link → List ℕ
-lowered d l = let x = getD d (l .from) 0 + l .weight in pick (ltb x (getD d (l .to) 0)) (set d (l .to) x) d
-
--- the list after all links, from the first to the last and back to the first
-unfoldable pub swept : List Link → List ℕ → List ℕ
-swept [] d = d
-swept (l ∷ ls) d = lowered (swept ls (lowered d l)) l
-
 unfoldable pub total : List ℕ → ℕ
 total [] = 0
 total (x ∷ xs) = x + total xs
 
--- sweeps until one lowers nothing; n bounds their number
-unfoldable pub sweeps : List Link → ℕ → List ℕ → List ℕ
-sweeps ls zero d = d
-sweeps ls (suc n) d =
-    let f = swept ls d in
-    elim (ltb (total f) (total d)) [ true ↦ sweeps ls n f | false ↦ d ]
-
--- before the first sweep: 0 at s and top elsewhere
-unfoldable pub outset : Graph → ℕ → ℕ → List ℕ
-outset g s top = set (replicate (g .nodes) top) s 0
-
--- the least cost from s to each node, and top where there is no walk
-unfoldable pub least-costs : Graph → ℕ → ℕ → List ℕ
-least-costs g s top = sweeps (links g (g .arcs)) (suc (total (outset g s top))) (outset g s top)
-
 -- ---- the laws
-total-set : (d : List ℕ) (i x : ℕ) → i < length d → x < getD d i 0 → total (set d i x) < total d
-unfolding total
-total-set [] i x l h = omega arith
-total-set (y ∷ ys) zero x l h = omega arith
-total-set (y ∷ ys) (suc i) x l h = omega (arith, total-set ys i x (omega arith) h)
-
 -- what holds of the entry that was set, and of the others, holds of each
 pub set-each : (P : ℕ → ℕ → Type 0) (d : List ℕ) (i x : ℕ) → i < length d → P i x → ((v : ℕ) → v ≢ i → P v (getD d v 0)) → (v : ℕ) → P v (getD (set d i x) v 0)
 set-each P d i x l here others v = go (ℕ-discrete v i)
@@ -102,26 +104,6 @@ relaxed-cases g d e = go (ltb 0 w) (ltb o h) refl refl
     go true false a b = kept (λ _. ltb-false o h b) refl
     go false q a b = kept (λ p. absurd (omega (arith, ltb-false 0 w a))) refl
 
--- a link's offer is that of its arc
-lowered-cases : (g : Graph) (d : List ℕ) (e : ℕ) → 0 < g .weight e → Relaxed g d e (lowered d (linkAt g e))
-unfolding lowered
-lowered-cases g d e p = go (ltb o (getD d (g .head e) 0)) refl
-  where
-    o : ℕ
-    o = getD d (g .tail e) 0 + g .weight e
-
-    go : (b : Bool) → ltb o (getD d (g .head e) 0) ≡ b → Relaxed g d e (pick b (set d (g .head e) o) d)
-    go true q = taken p (ltb-true o (getD d (g .head e) 0) q) refl
-    go false q = kept (λ _. ltb-false o (getD d (g .head e) 0) q) refl
-
--- f is d, and this holds of d, or its total is less
-abbrev Fallen : List ℕ → List ℕ → Type 0 → Type 0
-Fallen d f P = ((f ≡ d) × P) ⊎ (total f < total d)
-
-fallen-le : {d f : List ℕ} {P : Type 0} → Fallen d f P → total f ≤ total d
-fallen-le (inl k) = omega (arith, ap total (k .0))
-fallen-le (inr k) = omega arith
-
 -- none of the first n arcs offers less
 abbrev Lows : Graph → List ℕ → ℕ → Type 0
 Lows g d n = (e : ℕ) → e < n → Low g d e
@@ -133,12 +115,27 @@ one-more g d n below now e i = go (ℕ-discrete e n)
     go (yes q) = rw q now
     go (no q) = below e (omega arith)
 
--- a link, the links below it, and the link again: d, then a, then b, then f
-there-and-back : (g : Graph) (n : ℕ) {d a b f : List ℕ} → Fallen d a (Low g d n) → Fallen a b (Lows g a n) → Fallen b f (Low g b n) → Fallen d f (Lows g d (suc n))
-there-and-back g n (inr p) q r = inr (omega (arith, fallen-le q, fallen-le r))
-there-and-back g n (inl p) (inr q) r = inr (omega (arith, ap total (p .0), fallen-le r))
-there-and-back g n (inl p) (inl q) (inr r) = inr (omega (arith, ap total (p .0), ap total (q .0)))
-there-and-back g n {d} (inl p) (inl q) (inl r) = inl (r .0 ∙ q .0 ∙ p .0, one-more g d n (rw (p .0) at (q .1)) (p .1))
+-- f is d, of which this holds, or its digits make less
+abbrev Fallen : ℕ → List ℕ → List ℕ → Type 0 → Type 0
+Fallen b d f P = ((f ≡ d) × P) ⊎ (packed b f < packed b d)
+
+fallen-le : (b : ℕ) {d f : List ℕ} {P : Type 0} → Fallen b d f P → packed b f ≤ packed b d
+fallen-le b (inl k) = omega (arith, ap (packed b) (k .0))
+fallen-le b (inr k) = omega arith
+
+-- a link, the links below it, and the link again: d, then a, then c, then f
+there-and-back : (b : ℕ) (g : Graph) (n : ℕ) {d a c f : List ℕ} → Fallen b d a (Low g d n) → Fallen b a c (Lows g a n) → Fallen b c f (Low g c n) → Fallen b d f (Lows g d (suc n))
+there-and-back b g n (inr p) q r = inr (omega (arith, fallen-le b q, fallen-le b r))
+there-and-back b g n (inl p) (inr q) r = inr (omega (arith, ap (packed b) (p .0), fallen-le b r))
+there-and-back b g n (inl p) (inl q) (inr r) = inr (omega (arith, ap (packed b) (p .0), ap (packed b) (q .0)))
+there-and-back b g n {d} (inl p) (inl q) (inl r) = inl (r .0 ∙ q .0 ∙ p .0, one-more g d n (rw (p .0) at (q .1)) (p .1))
+
+-- what sweeps make of the digits of d: those of a list that is rough too
+record Kept (g : Graph) (s top : ℕ) (d : List ℕ) (P : Type 0) (x : ℕ) : Type 0 where
+  now : List ℕ
+  is : x ≡ packed (suc top) now
+  rough : Rough g s top now
+  fallen : Fallen (suc top) d now P
 
 module _ {g : Graph} {s top : ℕ} (sound : Sound g) where
   -- an arc's offer is taken: the list stays rough
@@ -158,48 +155,80 @@ module _ {g : Graph} {s top : ℕ} (sound : Sound g) where
         made = set-each (λ (v y : ℕ). v < g .nodes → y < top → Walk g s v y) d h x long (λ _ _. along e l p refl (r .made (g .tail e) in-t (omega arith)) refl) (λ v _. r .made v);
       }
 
-  -- after one arc
-  relaxed-rough : {d f : List ℕ} {e : ℕ} → Rough g s top d → e < g .arcs → Relaxed g d e f → Rough g s top f × Fallen d f (Low g d e)
-  relaxed-rough {d} {f} {e} r l (taken p o q) =
-      let long : g .head e < length d = omega (arith, r .sized, sound .head-in e l p) in
-      rw q (lowered-rough r e l p o, inr (total-set d (g .head e) (getD d (g .tail e) 0 + g .weight e) long o))
-  relaxed-rough r l (kept low q) = rw q (r, inl (refl, low))
+  digits-fit : {d : List ℕ} → Rough g s top d → Below (suc top) d
+  digits-fit {d} r i l = omega (arith, r .capped i (omega (arith, r .sized)))
+
+  digits-are : {d : List ℕ} → Rough g s top d → unpacked (suc top) (g .nodes) (packed (suc top) d) ≡ d
+  digits-are {d} r = ap (λ n. unpacked (suc top) n (packed (suc top) d)) (sym (r .sized)) ∙ unpacked-packed (suc top) d (digits-fit r)
+
+  -- after one link
+  lowered-kept : {d : List ℕ} → Rough g s top d → (e : ℕ) → e < g .arcs → 0 < g .weight e → Kept g s top d (Low g d e) (lowered (suc top) (packed (suc top) d) (linkAt (suc top) g e))
+  unfolding lowered
+  lowered-kept {d} r e l p = rw (digit-packed (suc top) d (g .tail e) (digits-fit r) long-t, digit-packed (suc top) d (g .head e) (digits-fit r) long-h) (go (ltb o h) refl)
+    where
+      o : ℕ
+      o = getD d (g .tail e) 0 + g .weight e
+
+      h : ℕ
+      h = getD d (g .head e) 0
+
+      long-t : g .tail e < length d
+      long-t = omega (arith, r .sized, sound .tail-in e l p)
+
+      long-h : g .head e < length d
+      long-h = omega (arith, r .sized, sound .head-in e l p)
+
+      go : (t : Bool) → ltb o h ≡ t → Kept g s top d (Low g d e) (pick t (packed (suc top) d - (h - o) * suc top ^ g .head e) (packed (suc top) d))
+      go true q =
+          let k = lowered-digit (suc top) d (g .head e) o (omega arith) long-h (ltb-true o h q) in
+          record { now = set d (g .head e) o; is = k .0; rough = lowered-rough r e l p (ltb-true o h q); fallen = inr (k .1) }
+      go false q = record { now = d; is = refl; rough = r; fallen = inl (refl, λ _. ltb-false o h q) }
 
   -- after the links of the first n arcs
-  swept-rough : (n : ℕ) → n ≤ g .arcs → {d : List ℕ} → Rough g s top d → Rough g s top (swept (links g n) d) × Fallen d (swept (links g n) d) (Lows g d n)
+  swept-kept : (n : ℕ) → n ≤ g .arcs → {d : List ℕ} → Rough g s top d → Kept g s top d (Lows g d n) (swept (suc top) (links (suc top) g n) (packed (suc top) d))
   unfolding swept links
-  swept-rough zero l r = (r, inl (refl, λ e h. absurd (omega arith)))
-  swept-rough (suc n) l {d} r = go (λ x q. swept-rough n (omega arith) {d = x} q) (ltb 0 (g .weight n)) refl
+  swept-kept zero l {d} r = record { now = d; is = refl; rough = r; fallen = inl (refl, λ e h. absurd (omega arith)) }
+  swept-kept (suc n) l {d} r = go (λ x q. swept-kept n (omega arith) {d = x} q) (ltb 0 (g .weight n)) refl
     where
-      go : ((x : List ℕ) → Rough g s top x → Rough g s top (swept (links g n) x) × Fallen x (swept (links g n) x) (Lows g x n))
-          → (b : Bool) → ltb 0 (g .weight n) ≡ b
-          → Rough g s top (swept (pick b (linkAt g n ∷ links g n) (links g n)) d) × Fallen d (swept (pick b (linkAt g n ∷ links g n) (links g n)) d) (Lows g d (suc n))
+      b : ℕ
+      b = suc top
+
+      go : ((x : List ℕ) → Rough g s top x → Kept g s top x (Lows g x n) (swept b (links b g n) (packed b x)))
+          → (t : Bool) → ltb 0 (g .weight n) ≡ t → Kept g s top d (Lows g d (suc n)) (swept b (pick t (linkAt b g n ∷ links b g n) (links b g n)) (packed b d))
       go rec true e =
-          let there = relaxed-rough r l (lowered-cases g d n (ltb-true 0 (g .weight n) e)) in
-          let below = rec (lowered d (linkAt g n)) (there .0) in
-          let back = relaxed-rough (below .0) l (lowered-cases g (swept (links g n) (lowered d (linkAt g n))) n (ltb-true 0 (g .weight n) e)) in
-          (back .0, there-and-back g n (there .1) (below .1) (back .1))
-      go rec false e = let below = rec d r in (below .0, more (below .1))
+          let there = lowered-kept r n l (ltb-true 0 (g .weight n) e) in
+          let below = rec (there .now) (there .rough) in
+          let back = lowered-kept (below .rough) n l (ltb-true 0 (g .weight n) e) in
+          rw (there .is, below .is) (record { now = back .now; is = back .is; rough = back .rough; fallen = there-and-back b g n (there .fallen) (below .fallen) (back .fallen) })
+      go rec false e = let below = rec d r in record { now = below .now; is = below .is; rough = below .rough; fallen = more (below .fallen) }
         where
-          more : {f : List ℕ} → Fallen d f (Lows g d n) → Fallen d f (Lows g d (suc n))
+          more : {f : List ℕ} → Fallen b d f (Lows g d n) → Fallen b d f (Lows g d (suc n))
           more (inl k) = inl (k .0, one-more g d n (k .1) (λ p. absurd (omega (arith, ltb-false 0 (g .weight n) e))))
           more (inr k) = inr k
 
-  -- sweeps end in the certificate, where more are allowed than the total
-  sweeps-settled : (n : ℕ) {d : List ℕ} → Rough g s top d → total d < n → Settled g s top (sweeps (links g (g .arcs)) n d)
+  -- sweeps end in the certificate, where more are allowed than the number that the digits make
+  sweeps-settled : (n : ℕ) {d : List ℕ} → Rough g s top d → packed (suc top) d < n
+      → Settled g s top (unpacked (suc top) (g .nodes) (sweeps (suc top) (links (suc top) g (g .arcs)) n (packed (suc top) d)))
   unfolding sweeps
   sweeps-settled zero r l = absurd (omega arith)
-  sweeps-settled (suc n) {d} r l = go (λ f q k. sweeps-settled n {d = f} q k) (swept-rough (g .arcs) (omega arith) r) (ltb (total f) (total d)) refl
+  sweeps-settled (suc n) {d} r l = go (λ x q k. sweeps-settled n {d = x} q k) (swept-kept (g .arcs) (omega arith) r) (ltb f (packed b d)) refl
     where
-      f : List ℕ
-      f = swept (links g (g .arcs)) d
+      b : ℕ
+      b = suc top
 
-      go : ((x : List ℕ) → Rough g s top x → total x < n → Settled g s top (sweeps (links g (g .arcs)) n x))
-          → Rough g s top f × Fallen d f (Lows g d (g .arcs))
-          → (b : Bool) → ltb (total f) (total d) ≡ b → Settled g s top (elim (ltb (total f) (total d)) [ true ↦ sweeps (links g (g .arcs)) n f | false ↦ d ])
-      go rec h true e = rw e (rec f (h .0) (omega (arith, ltb-true (total f) (total d) e)))
-      go rec (q, inl h) false e = rw e (record { rough = r; low = h .1 })
-      go rec (q, inr h) false e = absurd (omega (arith, ltb-false (total f) (total d) e))
+      f : ℕ
+      f = swept b (links b g (g .arcs)) (packed b d)
+
+      go : ((x : List ℕ) → Rough g s top x → packed b x < n → Settled g s top (unpacked b (g .nodes) (sweeps b (links b g (g .arcs)) n (packed b x))))
+          → Kept g s top d (Lows g d (g .arcs)) f
+          → (t : Bool) → ltb f (packed b d) ≡ t
+          → Settled g s top (unpacked b (g .nodes) (elim (ltb f (packed b d)) [ true ↦ sweeps b (links b g (g .arcs)) n f | false ↦ packed b d ]))
+      go rec k true e = rw (e, k .is) (rec (k .now) (k .rough) (omega (arith, k .is, ltb-true f (packed b d) e)))
+      go rec k false e = rw (e, digits-are r) (record { rough = r; low = still (k .fallen) })
+        where
+          still : Fallen b d (k .now) (Lows g d (g .arcs)) → Lows g d (g .arcs)
+          still (inl h) = h .1
+          still (inr h) = absurd (omega (arith, k .is, ltb-false f (packed b d) e))
 
   pub outset-rough : s < g .nodes → 0 < top → Rough g s top (outset g s top)
   unfolding outset
@@ -217,4 +246,4 @@ module _ {g : Graph} {s top : ℕ} (sound : Sound g) where
   -- the function's list is certified
   pub least-costs-settled : s < g .nodes → 0 < top → Settled g s top (least-costs g s top)
   unfolding least-costs
-  least-costs-settled l t = sweeps-settled (suc (total (outset g s top))) (outset-rough l t) (omega arith)
+  least-costs-settled l t = sweeps-settled (suc (packed (suc top) (outset g s top))) (outset-rough l t) (omega arith)

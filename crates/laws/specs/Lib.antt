@@ -11,6 +11,7 @@ pub mod Each
 pub mod Graph
 pub mod FirstLeast
 pub mod Winner
+pub mod Digits
 pub mod LeastCosts
 pub mod Offers
 pub mod Waiting

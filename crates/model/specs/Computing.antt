@@ -6,7 +6,8 @@ use Rattle.laws.specs.Search.{first, any, passing}
 use Rattle.laws.specs.Ladder.{refuse}
 use Rattle.laws.specs.Region.{region, within}
 use Rattle.laws.specs.Table.{tabulate}
-use Rattle.laws.specs.LeastCosts.{links, lowered, swept, total, sweeps, outset, least-costs}
+use Rattle.laws.specs.Digits.{packed, unpacked}
+use Rattle.laws.specs.LeastCosts.{links, lowered, swept, sweeps, outset, least-costs}
 use Rattle.laws.specs.FirstPath.{tight, better, closer, next, path}
 use Rattle.laws.specs.Members.{pairs}
 use Rattle.laws.specs.Winner.{beat, winner}
@@ -34,7 +35,7 @@ use Rattle.model.specs.Calls.{windowsFrom, flatWindows, windowsNumber, l
 use Rattle.model.specs.Hallroute.{digits, windowText, stepText, stepsText, answerText, pairText, pairLines, fileSize, hallLines, fileLines, hallroute}
 
 unfoldable in-lists : Unit {0}
-unfolding mul div lt le ofBits run bit first any passing refuse region within tabulate links lowered swept total sweeps outset least-costs tight better closer next path flatMap pairs beat winner
+unfolding mul div lt le ofBits run bit first any passing refuse region within tabulate packed unpacked links lowered swept sweeps outset least-costs tight better closer next path flatMap pairs beat winner
 in-lists = tt
 
 unfoldable in-floor : Unit {0}
