@@ -1,7 +1,7 @@
 -- Demand 3 at work: halls, lists of calls and pairs that meet its premises, and floors on which its bound is met exactly.
 use Prim.Native.Nat.{ℕ, _+_, _*_, _%_, _≤_}
 use native.Mathlib.Omega.{arith}
-use mathlib.Core.Path.{_≡_, refl}
+use mathlib.Core.Path.{_≡_, refl, sym, subst}
 use mathlib.Core.Logic.{inl, inr}
 use mathlib.Core.Bool.{_&&_}
 use mathlib.Core.List.{List, [], _∷_}
@@ -10,9 +10,10 @@ use lib.ListN.{replicate}
 use Rattle.laws.specs.Search.{passing}
 use Rattle.laws.specs.Floor.{BorderMove}
 use Rattle.model.specs.declared.Routed.the-variants.{Route}
-use Rattle.model.specs.Account.{Call, change, route, opening, accountAfter, accountCosts, Along, Walk}
+use Rattle.model.specs.Account.{Call, change, route, opening, accountAfter, accountCosts, borderMoves, Along, Walk}
 use Rattle.model.specs.Store.{sizeOf}
 use Rattle.model.specs.Calls.{buildInto, routeAnswer, storeAfter}
+use Rattle.model.specs.ScaleOne.{floor-one}
 use Rattle.model.specs.Computing.{computing}
 use Rattle.audit.specs.Starred.{hall, floor}
 use Rattle.audit.specs.Claim.{Claim}
@@ -59,22 +60,28 @@ sharp : routeAnswer (buildInto (hall 3 1 1) (floor (hall 3 1 1) walled) (replica
 unfolding computing
 sharp = refl
 
+-- scale 1 leaves the costs as they are
+unscaled : accountCosts (opening (hall 3 1 1) (floor (hall 3 1 1) walled)) ≡ floor (hall 3 1 1) walled
+unfolding accountCosts
+unscaled = floor-one (hall 3 1 1) refl (floor (hall 3 1 1) walled)
+
 -- x is followed by these cells, up to 290
-abbrev ToEnd : ℕ → List ℕ → Type 0
-ToEnd x next = Along (hall 3 1 1) (accountCosts (opening (hall 3 1 1) (floor (hall 3 1 1) walled))) x next 290
+abbrev ToEnd : ℕ → List ℕ → List ℕ → Type 0
+ToEnd x next costs = Along (hall 3 1 1) costs x next 290
+
+abbrev row-9 : List ℕ
+row-9 = 190 ∷ 191 ∷ 192 ∷ 193 ∷ 194 ∷ 195 ∷ 196 ∷ 197 ∷ 198 ∷ 199 ∷ 290 ∷ []
+
+to-end : ToEnd 99 row-9 (floor (hall 3 1 1) walled)
+unfolding computing
+to-end =
+    let a : ToEnd 198 (199 ∷ 290 ∷ []) (floor (hall 3 1 1) walled) = (omega arith, refl, inr (refl, inl refl), (omega arith, refl, inr (refl, inl refl), (omega arith, refl, refl))) in
+    let b : ToEnd 195 (196 ∷ 197 ∷ 198 ∷ 199 ∷ 290 ∷ []) (floor (hall 3 1 1) walled) =
+    (omega arith, refl, inr (refl, inl refl), (omega arith, refl, inr (refl, inl refl), (omega arith, refl, inr (refl, inl refl), a))) in
+    let c : ToEnd 192 (193 ∷ 194 ∷ 195 ∷ 196 ∷ 197 ∷ 198 ∷ 199 ∷ 290 ∷ []) (floor (hall 3 1 1) walled) =
+    (omega arith, refl, inr (refl, inl refl), (omega arith, refl, inr (refl, inl refl), (omega arith, refl, inr (refl, inl refl), b))) in
+    (omega arith, refl, inr (refl, inl refl), (omega arith, refl, inr (refl, inl refl), (omega arith, refl, inr (refl, inl refl), c)))
 
 along-row-9 : Walk (opening (hall 3 1 1) (floor (hall 3 1 1) walled)) 99 290 11 (over 99 190 ∷ over 199 290 ∷ [])
-unfolding computing
-along-row-9 =
-    let a : ToEnd 198 (199 ∷ 290 ∷ []) = (omega arith, refl, inr (refl, inl refl), (omega arith, refl, inr (refl, inl refl), (omega arith, refl, refl))) in
-    let b : ToEnd 195 (196 ∷ 197 ∷ 198 ∷ 199 ∷ 290 ∷ []) =
-    (omega arith, refl, inr (refl, inl refl), (omega arith, refl, inr (refl, inl refl), (omega arith, refl, inr (refl, inl refl), a))) in
-    let c : ToEnd 192 (193 ∷ 194 ∷ 195 ∷ 196 ∷ 197 ∷ 198 ∷ 199 ∷ 290 ∷ []) =
-    (omega arith, refl, inr (refl, inl refl), (omega arith, refl, inr (refl, inl refl), (omega arith, refl, inr (refl, inl refl), b))) in
-    record {
-      next = 190 ∷ 191 ∷ 192 ∷ 193 ∷ 194 ∷ 195 ∷ 196 ∷ 197 ∷ 198 ∷ 199 ∷ 290 ∷ [];
-      goes = (omega arith, refl, inr (refl, inl refl), (omega arith, refl, inr (refl, inl refl), (omega arith, refl, inr (refl, inl refl), c)));
-      moves = refl;
-      crossed = refl;
-      allowed = λ b i. tt;
-    }
+unfolding borderMoves
+along-row-9 = record { next = row-9; goes = subst (ToEnd 99 row-9) (sym unscaled) to-end; moves = refl; crossed = refl; allowed = λ b i. tt }
