@@ -2,7 +2,7 @@
 use Prim.Native.Nat.{ℕ, zero, suc, _+_, _-_, _*_, _/_, _%_, _^_, _≤_, _<_}
 use native.Mathlib.Nat.{zero-add, mul-one, mul-add, mul-left-comm, pow-zero, pow-succ', one-le-pow, mul-pos, mod-eq-of-lt, div-one, div-eq-of-lt, div-div-eq-div-mul, add-mul-div-left, add-mul-mod-self-left}
 use native.Mathlib.Omega.{arith}
-use mathlib.Core.Path.{_≡_, refl, sym, ap, _∙_}
+use mathlib.Core.Path.{_≡_, _∙_}
 use mathlib.Core.List.{List, [], _∷_}
 use lib.ListN.{getD, length, set}
 use lib.Seq.{ext-getD}
