@@ -1,4 +1,5 @@
--- What windows are: by one computed test over the 1,024 marks, each open place lies in the window that is named and in no other, and each window is a longest open run. And: bit i of a mark made of tests is test i.
+-- What windows are: by one computed test over the 1,024 marks, each open place lies in the window that is named and in no other, and each window is a longest open run.
+-- And: bit i of a mark made of tests is test i.
 use Prim.Native.Nat.{ℕ, zero, suc, _+_, _-_, _*_, _/_, _%_, _^_, _≤_, _<_}
 use native.Mathlib.Nat.{pow-succ', div-div-eq-div-mul}
 use native.Mathlib.Omega.{arith}

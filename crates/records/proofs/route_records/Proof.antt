@@ -1,4 +1,5 @@
--- `records::route_records` meets its contract: a walk of its MIR, by hand, with three calls. The array of zeros is lent to `flat_route`, which writes the route's steps to it, and comes back; then it is lent as shared to `write_records`, to which the list goes for good, and comes back.
+-- `records::route_records` meets its contract: a walk of its MIR, by hand, with three calls.
+-- The array of zeros is lent to `flat_route`, which writes the route's steps to it, and comes back; then it is lent as shared to `write_records`, to which the list goes for good, and comes back.
 -- All that the proof knows of `flat_route`, `steps_of` and `write_records` is that they meet their contracts. Assumes nothing.
 use mathlib.Core.Path.{_≡_, refl, sym, ap, subst, _∙_}
 use mathlib.Core.List.{List, [], _∷_, _++_}

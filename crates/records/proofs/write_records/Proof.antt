@@ -1,4 +1,5 @@
--- `records::write_records` meets its contract: a walk of its MIR, by hand, with a loop. The invariant of the turn i: the lent list has its first i entries from the flat form, and both slices are owned as at entry.
+-- `records::write_records` meets its contract: a walk of its MIR, by hand, with a loop.
+-- The invariant of the turn i: the lent list has its first i entries from the flat form, and both slices are owned as at entry.
 -- In a turn `step_in` is called on a copy of the shared slice, and what it returns is stored at i: the borrow is opened, element i is taken out, written and put back, and the borrow is closed.
 -- All that the proof knows of `step_in` is that it meets its contract. Assumes nothing.
 use mathlib.Core.Path.{_≡_, refl, sym, ap, subst, _∙_}

@@ -1,4 +1,5 @@
--- `spread` gives the levels of the moves. The loop's invariant: the levels up to d have the cells with at most as many moves; it is left where a level is the one before, or where there is a level for each count.
+-- `spread` gives the levels of the moves.
+-- The loop's invariant: the levels up to d have the cells with at most as many moves; it is left where a level is the one before, or where there is a level for each count.
 use Prim.Native.Nat.{ℕ, _+_, _-_, _≤_}
 use native.Mathlib.Omega.{arith}
 use mathlib.Core.Path.{_≡_, sym, ap, _∙_}
