@@ -10,6 +10,10 @@ use Rattle.laws.specs.Search.{count, count-room}
 use Rattle.laws.specs.Graph.{Graph, Sound, Walk, stay, along, Settled, none-less, under, under-more, reached, turned, below-or}
 use Rattle.laws.specs.FirstPath.{First, Trail, ends, goes, Tells, path, path-trail, path-first}
 
+-- the weight of a cost in a key
+abbrev pub keyStep : ℕ
+keyStep = 4096
+
 -- a way from s to a node, with its cost and the number of its arcs; arc e costs cost e, which may be 0
 data Way (g : Graph) (cost : ℕ → ℕ) (s : ℕ) : ℕ → ℕ → ℕ → Type 0 where
   stays : Way g cost s s 0 0
@@ -29,19 +33,19 @@ pub data Before (rank : ℕ → ℕ) (p q : List ℕ) (a b m n : ℕ) : Type 0 w
 -- a graph whose weights are keys, and a top that no key comes near
 pub record Keyed (g : Graph) (cost : ℕ → ℕ) (top : ℕ) : Type 0 where
   pub sound : Sound g
-  pub few : g .nodes < 4095
-  pub keyed : (e : ℕ) → e < g .arcs → 0 < g .weight e → g .weight e ≡ 4096 * cost e + 1
+  pub few : g .nodes + 1 < keyStep
+  pub keyed : (e : ℕ) → e < g .arcs → 0 < g .weight e → g .weight e ≡ keyStep * cost e + 1
   pub most : ℕ
   pub weighs : (e : ℕ) → e < g .arcs → g .weight e ≤ most
   pub room : most * g .nodes < top
 
 -- ---- ways
 module _ {g : Graph} {cost : ℕ → ℕ} {top : ℕ} (k : Keyed g cost top) {s : ℕ} where
-  way-walk : {v a n : ℕ} → Way g cost s v a n → (c : ℕ) → c ≡ 4096 * a + n → Walk g s v c
+  way-walk : {v a n : ℕ} → Way g cost s v a n → (c : ℕ) → c ≡ keyStep * a + n → Walk g s v c
   way-walk stays c q = let z : c ≡ 0 = omega arith in rw z stay
-  way-walk (takes {a = a} {m = m} e l p h w x y) c q = let z : c ≡ 4096 * a + m + g .weight e = omega (arith, k .keyed e l p) in along e l p h (way-walk w (4096 * a + m) refl) z
+  way-walk (takes {a = a} {m = m} e l p h w x y) c q = let z : c ≡ keyStep * a + m + g .weight e = omega (arith, k .keyed e l p) in along e l p h (way-walk w (keyStep * a + m) refl) z
 
-  walk-way : {v c : ℕ} → Walk g s v c → (a : ℕ) × (n : ℕ) × (c ≡ 4096 * a + n) × Way g cost s v a n
+  walk-way : {v c : ℕ} → Walk g s v c → (a : ℕ) × (n : ℕ) × (c ≡ keyStep * a + n) × Way g cost s v a n
   walk-way stay = (0, 0, omega arith, stays)
   walk-way (along e l p h w q) =
       let x = walk-way w in
@@ -49,42 +53,42 @@ module _ {g : Graph} {cost : ℕ → ℕ} {top : ℕ} (k : Keyed g cost top) {s 
 
   module _ {d : List ℕ} (ok : Settled g s top d) where
     way-reached : {v a n : ℕ} → Way g cost s v a n → getD d v 0 < top
-    way-reached {a = a} {n} w = reached ok (k .sound) (k .weighs) (k .room) (way-walk w (4096 * a + n) refl)
+    way-reached {a = a} {n} w = reached ok (k .sound) (k .weighs) (k .room) (way-walk w (keyStep * a + n) refl)
 
     -- a way that makes the least key passes a node of less key at each arc
-    arcs-few : {v a n : ℕ} → Way g cost s v a n → 4096 * a + n ≡ getD d v 0 → n ≤ count (under d (getD d v 0)) (g .nodes)
+    arcs-few : {v a n : ℕ} → Way g cost s v a n → keyStep * a + n ≡ getD d v 0 → n ≤ count (under d (getD d v 0)) (g .nodes)
     arcs-few stays q = omega arith
     arcs-few {v} (takes {a = a} {m = m} e l p h w x y) q =
         let u : ℕ = g .tail e in
-        let same : 4096 * a + m ≡ getD d u 0 = omega (arith, none-less ok (way-walk w (4096 * a + m) refl), ok .low e l p, k .keyed e l p, ap (λ (z : ℕ). getD d z 0) h) in
+        let same : keyStep * a + m ≡ getD d u 0 = omega (arith, none-less ok (way-walk w (keyStep * a + m) refl), ok .low e l p, k .keyed e l p, ap (λ (z : ℕ). getD d z 0) h) in
         let more : count (under d (getD d u 0)) (g .nodes) < count (under d (getD d v 0)) (g .nodes) =
         under-more d (getD d u 0) (getD d v 0) (g .nodes) u (k .sound .tail-in e l p) (omega arith) (omega (arith, k .keyed e l p)) in
         omega (arith, arcs-few w same)
 
     -- such a way has fewer arcs than the graph has nodes, and the key is its cost and its arcs
-    key-split : {v a n : ℕ} → v < g .nodes → Way g cost s v a n → 4096 * a + n ≡ getD d v 0 → (getD d v 0 / 4096 ≡ a) × (getD d v 0 % 4096 ≡ n) × (n < g .nodes)
+    key-split : {v a n : ℕ} → v < g .nodes → Way g cost s v a n → keyStep * a + n ≡ getD d v 0 → (getD d v 0 / keyStep ≡ a) × (getD d v 0 % keyStep ≡ n) × (n < g .nodes)
     key-split {v} {a} {n} l w q =
         let low : n < g .nodes = omega (arith, arcs-few w q, count-room (under d (getD d v 0)) (g .nodes) v l (le-ltb (getD d v 0) (getD d v 0) (omega arith))) in
         (omega (arith, k .few), omega (arith, k .few), low)
 
     -- the key, taken apart
-    key-is : (v : ℕ) → v < g .nodes → getD d v 0 < top → (getD d v 0 % 4096 < g .nodes) × Way g cost s v (getD d v 0 / 4096) (getD d v 0 % 4096)
+    key-is : (v : ℕ) → v < g .nodes → getD d v 0 < top → (getD d v 0 % keyStep < g .nodes) × Way g cost s v (getD d v 0 / keyStep) (getD d v 0 % keyStep)
     key-is v l t =
         let x = walk-way (ok .rough .made v l t) in
         let y = key-split l (x .3) (sym (x .2)) in
         rw (y .0, y .1) (y .2, x .3)
 
     -- no way costs less
-    key-cost : {v a n : ℕ} → Way g cost s v a n → getD d v 0 / 4096 ≤ a
+    key-cost : {v a n : ℕ} → Way g cost s v a n → getD d v 0 / keyStep ≤ a
     key-cost stays = omega (arith, ok .rough .start)
     key-cost (takes e l p h w x y) =
         let u : ℕ = g .tail e in
-        let small : getD d u 0 % 4096 < 4095 = omega (arith, key-is u (k .sound .tail-in e l p) (way-reached w) .0, k .few) in
+        let small : getD d u 0 % keyStep + 1 < keyStep = omega (arith, key-is u (k .sound .tail-in e l p) (way-reached w) .0, k .few) in
         omega (arith, key-cost w, ok .low e l p, k .keyed e l p, ap (λ (z : ℕ). getD d z 0) h)
 
     -- and none of that cost has fewer arcs
-    key-arcs : {v a n : ℕ} → Way g cost s v a n → a ≡ getD d v 0 / 4096 → getD d v 0 % 4096 ≤ n
-    key-arcs {a = a} {n} w q = omega (arith, none-less ok (way-walk w (4096 * a + n) refl))
+    key-arcs : {v a n : ℕ} → Way g cost s v a n → a ≡ getD d v 0 / keyStep → getD d v 0 % keyStep ≤ n
+    key-arcs {a = a} {n} w q = omega (arith, none-less ok (way-walk w (keyStep * a + n) refl))
 
 turned-keyed : {g : Graph} {cost : ℕ → ℕ} {top : ℕ} → Keyed g cost top → Keyed (turned g) cost top
 turned-keyed k = record { sound = record { tail-in = k .sound .head-in; head-in = k .sound .tail-in }; few = k .few; keyed = k .keyed; most = k .most; weighs = k .weighs; room = k .room }
@@ -100,11 +104,11 @@ journey-way arrived = stays
 journey-way (onward e l p h j x y) = takes e l p h (journey-way j) x y
 
 module _ {g : Graph} {cost : ℕ → ℕ} {top : ℕ} (k : Keyed g cost top) {t : ℕ} where
-  journey-trail : {u a n : ℕ} {p : List ℕ} → Journey g cost t u p a n → (c : ℕ) → c ≡ 4096 * a + n → Trail g t u p c
+  journey-trail : {u a n : ℕ} {p : List ℕ} → Journey g cost t u p a n → (c : ℕ) → c ≡ keyStep * a + n → Trail g t u p c
   journey-trail arrived c q = let z : c ≡ 0 = omega arith in rw z ends
-  journey-trail (onward {a = a} {m = m} e l p h j x y) c q = let z : c ≡ 4096 * a + m + g .weight e = omega (arith, k .keyed e l p) in goes e l p h (journey-trail j (4096 * a + m) refl) z
+  journey-trail (onward {a = a} {m = m} e l p h j x y) c q = let z : c ≡ keyStep * a + m + g .weight e = omega (arith, k .keyed e l p) in goes e l p h (journey-trail j (keyStep * a + m) refl) z
 
-  trail-journey : {u c : ℕ} {p : List ℕ} → Trail g t u p c → (a : ℕ) × (n : ℕ) × (c ≡ 4096 * a + n) × Journey g cost t u p a n
+  trail-journey : {u c : ℕ} {p : List ℕ} → Trail g t u p c → (a : ℕ) × (n : ℕ) × (c ≡ keyStep * a + n) × Journey g cost t u p a n
   trail-journey ends = (0, 0, omega arith, arrived)
   trail-journey (goes e l p h w q) =
       let x = trail-journey w in
@@ -118,32 +122,32 @@ module _ {g : Graph} {cost : ℕ → ℕ} {top : ℕ} (k : Keyed g cost top) {t 
 
     module _ (rank : ℕ → ℕ) (u : ℕ) (inside : u < g .nodes) (below : getD d u 0 < top) where
       -- the first path of least key, as a journey
-      path-journey : Journey g cost t u (path g rank d (getD d u 0) u) (getD d u 0 / 4096) (getD d u 0 % 4096) × (getD d u 0 % 4096 < g .nodes)
+      path-journey : Journey g cost t u (path g rank d (getD d u 0) u) (getD d u 0 / keyStep) (getD d u 0 % keyStep) × (getD d u 0 % keyStep < g .nodes)
       path-journey =
           let x = trail-journey (path-trail rank ok (k .sound) (getD d u 0) u inside below (omega arith)) in
           let y = key-split (turned-keyed k) ok inside (journey-way (x .3)) (sym (x .2)) in
           rw (y .0, y .1) (x .3, y .2)
 
-      pub few-edges : (getD d u 0 % 4096 < g .nodes) × (length (path g rank d (getD d u 0) u) ≡ suc (getD d u 0 % 4096))
+      pub few-edges : (getD d u 0 % keyStep < g .nodes) × (length (path g rank d (getD d u 0) u) ≡ suc (getD d u 0 % keyStep))
       few-edges = (path-journey .1, journey-length (path-journey .0))
 
       -- it is least by cost, then edges, then first difference, among all journeys from u
       pub least-journey : Tells g rank
-          → Journey g cost t u (path g rank d (getD d u 0) u) (getD d u 0 / 4096) (getD d u 0 % 4096)
-          × ((q : List ℕ) (b n : ℕ) → Journey g cost t u q b n → Before rank (path g rank d (getD d u 0) u) q (getD d u 0 / 4096) b (getD d u 0 % 4096) n)
-      least-journey tells = (path-journey .0, λ q b n j. by-cost q b n j (below-or (getD d u 0 / 4096) b))
+          → Journey g cost t u (path g rank d (getD d u 0) u) (getD d u 0 / keyStep) (getD d u 0 % keyStep)
+          × ((q : List ℕ) (b n : ℕ) → Journey g cost t u q b n → Before rank (path g rank d (getD d u 0) u) q (getD d u 0 / keyStep) b (getD d u 0 % keyStep) n)
+      least-journey tells = (path-journey .0, λ q b n j. by-cost q b n j (below-or (getD d u 0 / keyStep) b))
         where
-          by-cost : (q : List ℕ) (b n : ℕ) → Journey g cost t u q b n → (getD d u 0 / 4096 < b) ⊎ (b ≤ getD d u 0 / 4096)
-              → Before rank (path g rank d (getD d u 0) u) q (getD d u 0 / 4096) b (getD d u 0 % 4096) n
+          by-cost : (q : List ℕ) (b n : ℕ) → Journey g cost t u q b n → (getD d u 0 / keyStep < b) ⊎ (b ≤ getD d u 0 / keyStep)
+              → Before rank (path g rank d (getD d u 0) u) q (getD d u 0 / keyStep) b (getD d u 0 % keyStep) n
           by-cost q b n j (inl l) = cheaper l
-          by-cost q b n j (inr l) = by-edges (below-or (getD d u 0 % 4096) n)
+          by-cost q b n j (inr l) = by-edges (below-or (getD d u 0 % keyStep) n)
             where
-              level : getD d u 0 / 4096 ≡ b
+              level : getD d u 0 / keyStep ≡ b
               level = omega (arith, key-cost (turned-keyed k) ok (journey-way j))
 
-              by-edges : (getD d u 0 % 4096 < n) ⊎ (n ≤ getD d u 0 % 4096) → Before rank (path g rank d (getD d u 0) u) q (getD d u 0 / 4096) b (getD d u 0 % 4096) n
+              by-edges : (getD d u 0 % keyStep < n) ⊎ (n ≤ getD d u 0 % keyStep) → Before rank (path g rank d (getD d u 0) u) q (getD d u 0 / keyStep) b (getD d u 0 % keyStep) n
               by-edges (inl m) = shorter level m
               by-edges (inr m) =
-                  let equal : getD d u 0 % 4096 ≡ n = omega (arith, key-arcs (turned-keyed k) ok (journey-way j) (sym level)) in
-                  let key : 4096 * b + n ≡ getD d u 0 = omega (arith, level) in
-                  earlier level equal (path-first rank ok (k .sound) tells (getD d u 0) u (journey-trail j (4096 * b + n) refl) key (omega arith))
+                  let equal : getD d u 0 % keyStep ≡ n = omega (arith, key-arcs (turned-keyed k) ok (journey-way j) (sym level)) in
+                  let key : keyStep * b + n ≡ getD d u 0 = omega (arith, level) in
+                  earlier level equal (path-first rank ok (k .sound) tells (getD d u 0) u (journey-trail j (keyStep * b + n) refl) key (omega arith))

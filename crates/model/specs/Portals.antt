@@ -7,6 +7,7 @@ use lib.ListN.{getD, replicate}
 use Rattle.laws.specs.Fold.{pick}
 use Rattle.laws.specs.Table.{tabulate}
 use Rattle.laws.specs.Graph.{Graph}
+pub use Rattle.laws.specs.Keys.{keyStep}
 use Rattle.model.specs.declared.Measures.{Measures}
 use Rattle.model.specs.declared.PortalWindow.{PortalWindow}
 use Rattle.model.specs.declared.Side.{Side}
@@ -87,9 +88,6 @@ unfoldable pub headOf : Hall → ℕ → ℕ → ℕ
 headOf h p c = pick (eqb c (portalPlace p)) (facing h p) (placePortal (portalSector p) c)
 
 -- an edge of weight w as a key: 4,096 × w + 1; 0 says that there is no edge
-abbrev pub keyStep : ℕ
-keyStep = 4096
-
 abbrev pub key : ℕ → ℕ
 key w = keyStep * w + 1
 
