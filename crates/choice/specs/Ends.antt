@@ -11,7 +11,7 @@ use Rattle.laws.specs.Fold.{pick}
 use Rattle.laws.specs.Graph.{Graph, Sound, Settled, BothWays, below-or, none-less}
 use Rattle.laws.specs.Starts.{startsGraph, Begun, Tried, passed, took, starts-over-one, starts-least}
 use Rattle.model.specs.Moves.{apart}
-use Rattle.model.specs.Portals.{sectorPortals, keyStep}
+use Rattle.model.specs.Portals.{sectorPortals, hallPortals, keyStep}
 use Rattle.model.specs.LeastPath.{unlinked, keysTo}
 use Rattle.search.specs.Keys.{keys-certified}
 
@@ -65,7 +65,7 @@ pub record Nearest (g : Graph) (q : ℕ) (lasts d : List ℕ) : Type 0 where
 
 -- THE KEYS FROM THE GOAL, where every arc leads both ways and the weights fit
 module _ {g : Graph} (q : ℕ) (lasts d : List ℕ) (sound : Sound g) (back : BothWays g)
-    (few : g .nodes ≤ 2000) (light : (e : ℕ) → e < g .arcs → g .weight e ≤ 1048576)
+    (few : g .nodes ≤ hallPortals) (light : (e : ℕ) → e < g .arcs → g .weight e ≤ 1048576)
     (inside : q + sectorPortals ≤ g .nodes) (numbers : length d ≡ g .nodes) (ok : Settled (endsGraph g q lasts) (g .nodes) unlinked (d ++ 0 ∷ [])) where
   certified : (k : ℕ) → k < sectorPortals → Settled g (q + k) unlinked (keysTo g (q + k))
   certified k l = keys-certified sound back (omega arith)

@@ -4,13 +4,15 @@ ghost use Prim.Native.Nat.{_+_, _*_, _≤_, _<_};
 ghost use lib.ListN.{length};
 ghost use Rattle.laws.specs.Graph.{Graph, Sound, BothWays};
 ghost use Rattle.laws.specs.Starts.{Tried};
-ghost use Rattle.model.specs.Portals.{sectorPortals, portalCount};
+ghost use Rattle.model.specs.Portals.{sectorPortals, hallPortals, portalCount};
 ghost use Rattle.graph.specs.EdgeTable.{tableGraph};
 ghost use Rattle.search.specs.Searching.{Searched};
 ghost use Rattle.choice.specs.Ends.{endWeight, EndsBegun, Nearest};
 use graph::edges::KEY_STEP;
+use graph::portals::HALL_PORTALS;
 use graph::portals::SECTOR_PORTALS;
 use model::Measures;
+use search::keys::QUEUE_ROOM;
 use search::keys::collect;
 use search::keys::fill_keys;
 use search::keys::fill_wait;
@@ -54,7 +56,7 @@ fn search_ends(
     wait: &mut [u8],
     queue: &mut [u16],
 )
-    requires { ⌜ Searched m (now table) (length (now keys)) (length (now wait)) × (length (now wait) ≡ portalCount m) × (q + sectorPortals ≤ portalCount m) × (length (now lasts) ≡ sectorPortals) × (2000 ≤ length (now queue)) ⌝ }
+    requires { ⌜ Searched m (now table) (length (now keys)) (length (now wait)) × (length (now wait) ≡ portalCount m) × (q + sectorPortals ≤ portalCount m) × (length (now lasts) ≡ sectorPortals) × (hallPortals ≤ length (now queue)) ⌝ }
     requires { ⌜ BothWays (tableGraph m (now table)) ⌝ }
     ensures { λ _. ⌜ Nearest (tableGraph m (now (table .entry))) q (now (lasts .entry)) (now (keys .exit)) ⌝ }
 {
@@ -67,12 +69,12 @@ fn search_ends(
 
 // The least key from each portal to the goal over one of the ends, whose numbers begin at q: 4,096 for each move from the end to the goal and 4,096 more are counted in. 4294967295 where there is none.
 pub fn keys_to_goal(m: Measures, table: &[u32], q: usize, lasts: &[u8], keys: &mut [u32])
-    requires { ⌜ Searched m (now table) (length (now keys)) 2000 × (q + sectorPortals ≤ portalCount m) × (length (now lasts) ≡ sectorPortals) ⌝ }
+    requires { ⌜ Searched m (now table) (length (now keys)) hallPortals × (q + sectorPortals ≤ portalCount m) × (length (now lasts) ≡ sectorPortals) ⌝ }
     requires { ⌜ BothWays (tableGraph m (now table)) ⌝ }
     ensures { λ _. ⌜ Nearest (tableGraph m (now (table .entry))) q (now (lasts .entry)) (now (keys .exit)) ⌝ }
 {
-    let mut wait: [u8; 2000] = [0; 2000];
-    let mut queue: [u16; 4096] = [0; 4096];
+    let mut wait: [u8; HALL_PORTALS] = [0; HALL_PORTALS];
+    let mut queue: [u16; QUEUE_ROOM] = [0; QUEUE_ROOM];
     let n = keys.len();
     search_ends(m, table, q, lasts, keys, &mut wait[..n], &mut queue);
 }

@@ -4,7 +4,7 @@ ghost use Prim.Native.Nat.{_+_, _*_, _≤_};
 ghost use lib.ListN.{length};
 ghost use Rattle.laws.specs.Graph.{BothWays};
 ghost use Rattle.laws.specs.FirstLeast.{Foremost};
-ghost use Rattle.model.specs.Portals.{sectorPortals, portalCount};
+ghost use Rattle.model.specs.Portals.{sectorPortals, hallPortals, portalCount};
 ghost use Rattle.model.specs.LeastPath.{unlinked};
 ghost use Rattle.graph.specs.EdgeTable.{tableGraph};
 ghost use Rattle.search.specs.Searching.{Searched};
@@ -38,7 +38,7 @@ fn run_of(key: u32, leg: u8, last: u8) -> u32
 
 // The first of twenty places with the least run, or 20 where there is none: keys from number p on, legs and last moves by place.
 fn first_place(keys: &[u32], p: usize, legs: &[u8], lasts: &[u8]) -> usize
-    requires { ⌜ (p + sectorPortals ≤ length (now keys)) × (length (now keys) ≤ 2000) × (length (now legs) ≡ sectorPortals) × (length (now lasts) ≡ sectorPortals) ⌝ }
+    requires { ⌜ (p + sectorPortals ≤ length (now keys)) × (length (now keys) ≤ hallPortals) × (length (now legs) ≡ sectorPortals) × (length (now lasts) ≡ sectorPortals) ⌝ }
     ensures { λ r. ⌜ Foremost (placeRun (now (keys .entry)) p (now (legs .entry)) (now (lasts .entry))) unlinked sectorPortals r ⌝ }
 {
     let mut best = SECTOR_PORTALS;
@@ -66,7 +66,7 @@ pub fn choose_pair(
     lasts: &[u8],
     keys: &mut [u32],
 ) -> usize
-    requires { ⌜ Searched m (now table) (length (now keys)) 2000 × (p + sectorPortals ≤ portalCount m) × (q + sectorPortals ≤ portalCount m) × (length (now legs) ≡ sectorPortals) × (length (now lasts) ≡ sectorPortals) ⌝ }
+    requires { ⌜ Searched m (now table) (length (now keys)) hallPortals × (p + sectorPortals ≤ portalCount m) × (q + sectorPortals ≤ portalCount m) × (length (now legs) ≡ sectorPortals) × (length (now lasts) ≡ sectorPortals) ⌝ }
     requires { ⌜ BothWays (tableGraph m (now table)) ⌝ }
     ensures { λ r. ⌜ Foremost (pairRun (tableGraph m (now (table .entry))) (now (legs .entry)) (now (lasts .entry)) p q) unlinked (sectorPortals * sectorPortals) r ⌝ }
 {

@@ -3,7 +3,7 @@ ghost use mathlib.Core.Path.{_≡_};
 ghost use Prim.Native.Nat.{_+_, _*_, _/_, _%_, _≤_, _<_};
 ghost use lib.ListN.{length, getD};
 ghost use Rattle.model.specs.Sectors.{sectors, costsOf};
-ghost use Rattle.model.specs.Portals.{sectorPortals, sectorArcs, portalCount, arcCount, portalSector, portalPlace, outerEdge};
+ghost use Rattle.model.specs.Portals.{sectorPortals, hallPortals, sectorArcs, portalCount, arcCount, portalSector, portalPlace, outerEdge};
 ghost use Rattle.model.specs.Store.{decode};
 ghost use Rattle.moves.specs.Levels.{openWords, movesIn};
 ghost use Rattle.graph.specs.EdgeTable.{Opened, Filled, Row, edgeTable};
@@ -63,7 +63,7 @@ fn edge_at(levels: &[u64], n: usize, mid: u8, outer: u32, own: usize, c: usize) 
 
 // The 20 places of portal p, by the levels of the moves from its midpoint and the midpoints of its sector.
 fn fill_places(p: usize, levels: &[u64], n: usize, mids: &[u8], outer: u32, table: &mut [u32])
-    requires { ⌜ (length (now levels) ≡ 202) × (n ≤ 101) × (length (now mids) ≡ sectorPortals) × (p < 2000) × (p * sectorPortals + sectorPortals ≤ length (now table)) ⌝ }
+    requires { ⌜ (length (now levels) ≡ 202) × (n ≤ 101) × (length (now mids) ≡ sectorPortals) × (p < hallPortals) × (p * sectorPortals + sectorPortals ≤ length (now table)) ⌝ }
     ensures { λ _. ⌜ Row (λ c. edgeBy (movesIn (now (levels .entry)) n) (getD (now (mids .entry)) c 0) outer (portalPlace p) c) p sectorPortals (now (table .entry)) (now (table .exit)) ⌝ }
 {
     let mut c = 0;
@@ -75,7 +75,7 @@ fn fill_places(p: usize, levels: &[u64], n: usize, mids: &[u8], outer: u32, tabl
 
 // The 20 places of number p, which is no portal's.
 fn clear_places(p: usize, table: &mut [u32])
-    requires { ⌜ (p < 2000) × (p * sectorPortals + sectorPortals ≤ length (now table)) ⌝ }
+    requires { ⌜ (p < hallPortals) × (p * sectorPortals + sectorPortals ≤ length (now table)) ⌝ }
     ensures { λ _. ⌜ Row (λ c. 0) p sectorPortals (now (table .entry)) (now (table .exit)) ⌝ }
 {
     let mut c = 0;

@@ -3,7 +3,7 @@ ghost use mathlib.Core.Path.{_≡_};
 ghost use mathlib.Core.Bool.{true};
 ghost use Prim.Native.Nat.{_*_, _/_, _≤_, _<_};
 ghost use Rattle.model.specs.Sectors.{sectorCells, sectors};
-ghost use Rattle.model.specs.Portals.{sectorPortals, portalSector, portalSide, portalWindow, portalMark, isPortal, windowOf, midpoint, facing, headOf};
+ghost use Rattle.model.specs.Portals.{sectorPortals, hallPortals, portalSector, portalSide, portalWindow, portalMark, isPortal, windowOf, midpoint, facing, headOf};
 ghost use Rattle.model.specs.Store.{decode};
 ghost use Rattle.graph.specs.EdgeTable.{Opened, bare};
 ghost use Rattle.graph.specs.Reading.{Places};
@@ -23,12 +23,16 @@ use portal::runs::window_count;
 use portal::windows::window_of;
 use store::layout::mark_in;
 
-// How many numbers for portals a side and a sector have, and how many arcs a sector: as many for each of its numbers.
+// How many numbers for portals a side, a sector and the largest hall of 100 sectors have, and how many arcs: 20 for each of the numbers.
 const SIDE_PORTALS: usize = 5;
 
 pub const SECTOR_PORTALS: usize = 20;
 
+pub const HALL_PORTALS: usize = 2000;
+
 pub const SECTOR_ARCS: usize = SECTOR_PORTALS * SECTOR_PORTALS;
+
+pub const HALL_ARCS: usize = HALL_PORTALS * SECTOR_PORTALS;
 
 // The side that a portal stands on, and the mark of that side.
 pub fn portal_side(p: usize) -> Side
@@ -81,7 +85,7 @@ pub fn midpoint(st: &[u8], m: Measures, p: usize) -> usize
 
 // The portal of the same number on the facing side.
 pub fn facing(m: Measures, p: usize) -> usize
-    requires { ⌜ (m .rows ≤ 10) × (p < 2000) ⌝ }
+    requires { ⌜ (m .rows ≤ 10) × (p < hallPortals) ⌝ }
     ensures { λ r. ⌜ r ≡ facing (bare m) p ⌝ }
 {
     let side = portal_side(p);
@@ -92,7 +96,7 @@ pub fn facing(m: Measures, p: usize) -> usize
 
 // The portal to which place c of portal p leads.
 pub fn head_of(m: Measures, p: usize, c: usize) -> usize
-    requires { ⌜ (m .rows ≤ 10) × (p < 2000) × (c < sectorPortals) ⌝ }
+    requires { ⌜ (m .rows ≤ 10) × (p < hallPortals) × (c < sectorPortals) ⌝ }
     ensures { λ r. ⌜ r ≡ headOf (bare m) p c ⌝ }
 {
     if c == p % SECTOR_PORTALS {

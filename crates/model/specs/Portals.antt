@@ -17,17 +17,21 @@ use Rattle.model.specs.Moves.{moves, apart}
 use Rattle.model.specs.Windows.{border, windowCount, crossing, windowAt}
 use Rattle.model.specs.Halls.{Hall, markAt}
 
--- the numbers for portals of a side and of a sector, and the arcs of a sector: 20 for each of its numbers
+-- the numbers for portals of a side, of a sector, and of the largest hall, which has 100 sectors
 abbrev pub sidePortals : ℕ
 sidePortals = 5
 
 abbrev pub sectorPortals : ℕ
 sectorPortals = 20
 
+abbrev pub hallPortals : ℕ
+hallPortals = 2000
+
+-- the arcs of a sector: 20 for each of its numbers
 abbrev pub sectorArcs : ℕ
 sectorArcs = 400
 
--- and those of a hall
+-- the numbers and arcs of a hall
 abbrev pub portalCount : Measures → ℕ
 portalCount m = sectors m * sectorPortals
 

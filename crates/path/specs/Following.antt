@@ -16,7 +16,7 @@ use Rattle.model.specs.declared.Measures.{Measures}
 use Rattle.model.specs.declared.Side.{Side}
 use Rattle.model.specs.Cells.{sideNumber}
 use Rattle.model.specs.Windows.{borderCell, firstPlace, lastPlace}
-use Rattle.model.specs.Portals.{sectorPortals, portalCount, arcCount, portalSector, portalSide, portalWindow, arcTail, arcPlace, portalMark, isPortal, headOf, key, portalGraph}
+use Rattle.model.specs.Portals.{sectorPortals, hallPortals, portalCount, arcCount, portalSector, portalSide, portalWindow, arcTail, arcPlace, portalMark, isPortal, headOf, key, portalGraph}
 use Rattle.model.specs.LeastPath.{cellRank, nodeRank, unlinked, keysTo, leastPath}
 use Rattle.model.specs.PortalEdges.{weight-low, head-portal, portal-sound}
 use Rattle.model.specs.LeastPathFirst.{portal-keyed, keys-settled}
@@ -37,7 +37,7 @@ module _ {m : Measures} {st table : List ℕ} {keys : ℕ} (k : Linked m st tabl
   graph-is = ap (λ (n : Measures). tableGraph n table) (sym (measures-are (k .opened))) ∙ ap (tableGraph (decode st .measures)) (k .filled) ∙ table-graph (decode st)
 
   -- so it can be searched
-  pub searched-of : Searched m table keys 2000
+  pub searched-of : Searched m table keys hallPortals
   searched-of =
       let few = accepted-of (k .opened) in
       record {

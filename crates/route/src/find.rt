@@ -17,6 +17,8 @@ use graph::edges::KEY_STEP;
 use graph::edges::fill_edges;
 use graph::near::moves_to;
 use graph::near::portal_moves;
+use graph::portals::HALL_ARCS;
+use graph::portals::HALL_PORTALS;
 use graph::portals::SECTOR_ARCS;
 use graph::portals::SECTOR_PORTALS;
 use model::Measures;
@@ -63,7 +65,7 @@ fn through_pair(
     ensures steps { λ _. ⌜ now (list .exit) ≡ foundInto (pairRoute (decode (now (st .entry))) goal p e leg last) (now (list .entry)) ⌝ }
 {
     keys_to(m, table, e, keys);
-    let mut nodes: [u16; 2000] = [0; 2000];
+    let mut nodes: [u16; HALL_PORTALS] = [0; HALL_PORTALS];
     let n = least_path(st, m, table, keys, p, &mut nodes);
     let steps = step_count(n);
     let found = Routed::Route {
@@ -120,13 +122,13 @@ fn through_lists(
 }
 
 // Room for the weights of the largest hall.
-fn table_room() -> [u32; 40000] {
-    [0u32; 40000]
+fn table_room() -> [u32; HALL_ARCS] {
+    [0u32; HALL_ARCS]
 }
 
 // Room for its keys.
-fn key_room() -> [u32; 2000] {
-    [0u32; 2000]
+fn key_room() -> [u32; HALL_PORTALS] {
+    [0u32; HALL_PORTALS]
 }
 
 // The same in lists of its own.

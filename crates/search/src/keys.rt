@@ -9,15 +9,19 @@ ghost use Rattle.laws.specs.LeastCosts.{relaxed};
 ghost use Rattle.laws.specs.Waiting.{awaited, work};
 ghost use Rattle.laws.specs.Extending.{Keeps};
 ghost use Rattle.laws.specs.Turns.{Turned, Lined};
-ghost use Rattle.model.specs.Portals.{sectorPortals, portalCount, arcCount, portalSector, arcTail};
+ghost use Rattle.model.specs.Portals.{sectorPortals, hallPortals, portalCount, arcCount, portalSector, arcTail};
 ghost use Rattle.model.specs.LeastPath.{unlinked, keysTo};
 ghost use Rattle.graph.specs.EdgeTable.{tableGraph};
 ghost use Rattle.search.specs.Searching.{Searched};
 ghost use Rattle.search.specs.Turns.{Offerless, Asked, Had};
 use graph::edges::UNLINKED;
+use graph::portals::HALL_PORTALS;
 use graph::portals::SECTOR_PORTALS;
 use graph::portals::head_of;
 use model::Measures;
+
+// How many numbers a queue has room for: about two turns of each portal of the largest hall.
+pub const QUEUE_ROOM: usize = 4096;
 
 // Number v comes to the end of the queue, if there is room. Says where the queue then ends.
 fn push(queue: &mut [u16], end: usize, v: usize) -> usize
@@ -83,7 +87,7 @@ fn gain(key: u32, w: u32, old: u32) -> u32
 
 // Whether an edge of portal u within its sector offers less than the portal there has. All twenty places are looked at: to stop at the first is slower.
 fn offers_inside(table: &[u32], u: usize, keys: &[u32]) -> bool
-    requires { ⌜ (u < 2000) × (portalSector u * sectorPortals + sectorPortals ≤ length (now keys)) × (u * sectorPortals + sectorPortals ≤ length (now table)) ⌝ }
+    requires { ⌜ (u < hallPortals) × (portalSector u * sectorPortals + sectorPortals ≤ length (now keys)) × (u * sectorPortals + sectorPortals ≤ length (now table)) ⌝ }
     ensures { λ r. ⌜ (r ≡ false → Offerless (now (table .entry)) (now (keys .entry)) u sectorPortals) ⌝ }
 {
     let key = keys[u];
@@ -277,7 +281,7 @@ fn search(
     wait: &mut [u8],
     queue: &mut [u16],
 )
-    requires { ⌜ Searched m (now table) (length (now keys)) (length (now wait)) × (e < portalCount m) × (2000 ≤ length (now queue)) ⌝ }
+    requires { ⌜ Searched m (now table) (length (now keys)) (length (now wait)) × (e < portalCount m) × (hallPortals ≤ length (now queue)) ⌝ }
     requires { ⌜ BothWays (tableGraph m (now table)) ⌝ }
     ensures { λ _. ⌜ now (keys .exit) ≡ keysTo (tableGraph m (now (table .entry))) e ⌝ }
 {
@@ -287,11 +291,11 @@ fn search(
 
 // The least key of a path to portal e from each portal, and 4294967295 where there is none.
 pub fn keys_to(m: Measures, table: &[u32], e: usize, keys: &mut [u32])
-    requires { ⌜ Searched m (now table) (length (now keys)) 2000 × (e < portalCount m) ⌝ }
+    requires { ⌜ Searched m (now table) (length (now keys)) hallPortals × (e < portalCount m) ⌝ }
     requires { ⌜ BothWays (tableGraph m (now table)) ⌝ }
     ensures { λ _. ⌜ now (keys .exit) ≡ keysTo (tableGraph m (now (table .entry))) e ⌝ }
 {
-    let mut wait: [u8; 2000] = [0; 2000];
-    let mut queue: [u16; 4096] = [0; 4096];
+    let mut wait: [u8; HALL_PORTALS] = [0; HALL_PORTALS];
+    let mut queue: [u16; QUEUE_ROOM] = [0; QUEUE_ROOM];
     search(m, table, e, keys, &mut wait, &mut queue);
 }

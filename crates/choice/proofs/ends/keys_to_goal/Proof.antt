@@ -4,6 +4,7 @@ use Prim.Native.Nat.{_≤_}
 use lib.ListN.{length, length-take}
 use denote.Ref.{now}
 use borrow.Author.Needs.{needs}
+use Rattle.model.specs.Portals.{hallPortals}
 use Rattle.search.specs.Searching.{searched-in}
 use Rattle.choice.proofs.ends.keys_to_goal.Statement.{statement}
 use Rattle.choice.proofs.ends.keys_to_goal.Tie as tie
@@ -12,7 +13,7 @@ use Rattle.choice.proofs.ends.keys_to_goal.Tie as tie
 abbrev S : tie.After-search-ends-arg → tie.Start
 S c = c .before .before .before .before
 
-low : (c : tie.After-search-ends-arg) → length (now (S c .args .keys)) ≤ 2000
+low : (c : tie.After-search-ends-arg) → length (now (S c .args .keys)) ≤ hallPortals
 low c = omega (arith, S c .pre .0 .0 .graph .numbers, S c .pre .0 .0 .few)
 
 slice-aggregate-search-ends : tie.Need-slice-aggregate-search-ends

@@ -6,6 +6,7 @@ use lib.ListN.{length}
 use denote.Ref.{now}
 use Rattle.model.specs.Sectors.{sectors, costsOf}
 use Rattle.model.specs.Halls.{Hall}
+use Rattle.model.specs.Portals.{hallPortals}
 use Rattle.model.specs.Store.{decode}
 use Rattle.moves.specs.Levels.{openWords}
 use Rattle.graph.specs.Reading.{accepted-of, fits-of, measures-are}
@@ -24,7 +25,7 @@ are : (c : tie.After-shared-slice-known4) → sectors (H c .measures) ≡ sector
 are c = ap sectors (measures-are (S c .pre .0 .0))
 
 -- the places stand in the table, and in the graph
-few : (c : tie.After-shared-slice-known4) → S c .args .p < 2000
+few : (c : tie.After-shared-slice-known4) → S c .args .p < hallPortals
 few c = omega (arith, accepted-of (S c .pre .0 .0) .few-sectors, S c .pre .0 .1)
 
 room : (c : tie.After-shared-slice-known4) → S c .args .p * 20 + 20 ≤ length (now (S c .args .table))

@@ -7,7 +7,7 @@ use lib.ListN.{length, getD}
 use denote.Ref.{now}
 use Rattle.laws.specs.Graph.{Graph}
 use Rattle.model.specs.Sectors.{sectors}
-use Rattle.model.specs.Portals.{portalGraph}
+use Rattle.model.specs.Portals.{hallPortals, portalGraph}
 use Rattle.model.specs.LeastPath.{unlinked, keysTo}
 use Rattle.model.specs.PortalCrossings.{Fits}
 use Rattle.model.specs.Store.{decode}
@@ -45,7 +45,7 @@ key-low : (c : tie.After-keys-to) → getD (c .keys-to .last .1 .1 .1 .0) (S c .
 key-low c = omega (arith, S c .pre .1 .linked, ap (λ (l : List ℕ). getD l (S c .args .p) 0) (keys-are c))
 
 -- the path fits the list of portals
-few-portals : (l : tie.After-least-path) → (l .least-path .result ≤ length (l .least-path .last .1 .1 .1 .1 .1 .0)) × (length (l .least-path .last .1 .1 .1 .1 .1 .0) ≡ 2000)
+few-portals : (l : tie.After-least-path) → (l .least-path .result ≤ length (l .least-path .last .1 .1 .1 .1 .1 .0)) × (length (l .least-path .last .1 .1 .1 .1 .1 .0) ≡ hallPortals)
 few-portals l = let s = S (K l) in (
   taken-few _ (fits s) (s .pre .1) _ _ _ (keys-are (K l)) (l .least-path .ensures .0) (l .least-path .ensures .1) (l .least-path .kept .1 .1 .1 .1 .1 .0),
   l .least-path .kept .1 .1 .1 .1 .1 .0,
