@@ -22,10 +22,10 @@ use Rattle.graph.specs.EdgeTable.{Opened, bare}
 use Rattle.graph.specs.Near.{midOf, sectorMids, nearBy, mid-some, mid-none}
 
 -- the edge to the facing portal q: x says whether there is a sector beyond, y whether q is a portal
-pub outer-is : {m : Measures} {st : List ℕ} → Opened m st → (p : ℕ) (x y : Bool) {side : Side} {b d : Bool} {q : ℕ} → side ≡ portalSide p → b ≡ hasBeyond m (portalSector p) side → b ≡ x
+pub outer-is : {m : Measures} {st : List ℕ} → Opened m st → (p : ℕ) (x y : Bool) {s q : ℕ} {side : Side} {b d : Bool} → s ≡ portalSector p → side ≡ portalSide p → b ≡ hasBeyond m s side → b ≡ x
     → q ≡ facing (bare m) p → d ≡ isPortal (decode st) q → d ≡ y → pick (x && y) (key 1) 0 ≡ outerEdge (decode st) p
 unfolding outerEdge facing decode
-outer-is o p x y e f b g k d = rw (← b, ← d, k, g, f, e, o .read) refl
+outer-is o p x y s e f b g k d = rw (← b, ← d, k, g, f, s, e, o .read) refl
 
 -- ---- the edges of a portal as code finds them: the moves from its midpoint are spread once, the midpoints of its sector are known
 -- the edge at place c, which has midpoint `mid`; at the portal's own place stands the edge to the facing one

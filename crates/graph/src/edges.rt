@@ -17,6 +17,7 @@ use crate::near::sector_words;
 use crate::portals::SECTOR_PORTALS;
 use crate::portals::facing;
 use crate::portals::is_portal;
+use crate::portals::portal_sector;
 use crate::portals::portal_side;
 use fields::numbers::wide;
 use fields::sectors::SECTOR_CELLS;
@@ -37,7 +38,7 @@ fn outer_edge(st: &[u8], m: Measures, p: usize) -> u32
     requires { ⌜ Opened m (now st) × (p < portalCount m) ⌝ }
     ensures { λ r. ⌜ r ≡ outerEdge (decode (now (st .entry))) p ⌝ }
 {
-    if !has_beyond(m, p / SECTOR_PORTALS, portal_side(p)) {
+    if !has_beyond(m, portal_sector(p), portal_side(p)) {
         return 0;
     }
     if is_portal(st, m, facing(m, p)) {
@@ -107,7 +108,7 @@ fn fill_number(
     let n = moves_from(
         st,
         m,
-        p / SECTOR_PORTALS * SECTOR_CELLS + wide(mid),
+        portal_sector(p) * SECTOR_CELLS + wide(mid),
         words,
         levels,
     );

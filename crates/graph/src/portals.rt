@@ -34,11 +34,23 @@ pub const SECTOR_ARCS: usize = SECTOR_PORTALS * SECTOR_PORTALS;
 
 pub const HALL_ARCS: usize = HALL_PORTALS * SECTOR_PORTALS;
 
-// The side that a portal stands on, and the mark of that side.
+// A portal's sector, the side that it stands on, its window there, and the mark of that side.
+pub fn portal_sector(p: usize) -> usize
+    ensures { λ r. ⌜ r ≡ portalSector p ⌝ }
+{
+    p / SECTOR_PORTALS
+}
+
 pub fn portal_side(p: usize) -> Side
     ensures { λ r. ⌜ r ≡ portalSide p ⌝ }
 {
     side_at(p % SECTOR_PORTALS / SIDE_PORTALS)
+}
+
+fn portal_window(p: usize) -> usize
+    ensures { λ r. ⌜ r ≡ portalWindow p ⌝ }
+{
+    p % SIDE_PORTALS
 }
 
 fn mark_of(st: &[u8], m: Measures, p: usize) -> u16
@@ -53,10 +65,10 @@ pub fn is_portal(st: &[u8], m: Measures, p: usize) -> bool
     requires { ⌜ Opened m (now st) ⌝ }
     ensures { λ r. ⌜ r ≡ isPortal (decode (now (st .entry))) p ⌝ }
 {
-    if sectors(m) <= p / SECTOR_PORTALS {
+    if sectors(m) <= portal_sector(p) {
         return false;
     }
-    p % SIDE_PORTALS < window_count(mark_of(st, m, p))
+    portal_window(p) < window_count(mark_of(st, m, p))
 }
 
 // The window of a portal: its first and last place, and its cells.
@@ -64,14 +76,14 @@ pub fn portal_run(st: &[u8], m: Measures, p: usize) -> OpenRun
     requires { ⌜ Opened m (now st) × (isPortal (decode (now st)) p ≡ true) ⌝ }
     ensures { λ r. ⌜ Places (portalMark (decode (now (st .entry))) p) (portalWindow p) r ⌝ }
 {
-    window_at(mark_of(st, m, p), p % SIDE_PORTALS)
+    window_at(mark_of(st, m, p), portal_window(p))
 }
 
 pub fn window_of_portal(st: &[u8], m: Measures, p: usize) -> PortalWindow
     requires { ⌜ Opened m (now st) × (isPortal (decode (now st)) p ≡ true) ⌝ }
     ensures { λ r. ⌜ r ≡ windowOf (decode (now (st .entry))) p ⌝ }
 {
-    window_of(portal_side(p), mark_of(st, m, p), p % SIDE_PORTALS)
+    window_of(portal_side(p), mark_of(st, m, p), portal_window(p))
 }
 
 // The crossing of a portal: the index of its midpoint.
@@ -89,9 +101,9 @@ pub fn facing(m: Measures, p: usize) -> usize
     ensures { λ r. ⌜ r ≡ facing (bare m) p ⌝ }
 {
     let side = portal_side(p);
-    beyond(m, p / SECTOR_PORTALS, side) * SECTOR_PORTALS
+    beyond(m, portal_sector(p), side) * SECTOR_PORTALS
         + side_number(opposite(side)) * SIDE_PORTALS
-        + p % SIDE_PORTALS
+        + portal_window(p)
 }
 
 // The portal to which place c of portal p leads.
@@ -102,5 +114,5 @@ pub fn head_of(m: Measures, p: usize, c: usize) -> usize
     if c == p % SECTOR_PORTALS {
         return facing(m, p);
     }
-    p / SECTOR_PORTALS * SECTOR_PORTALS + c
+    portal_sector(p) * SECTOR_PORTALS + c
 }

@@ -16,6 +16,7 @@ use Rattle.model.specs.declared.Measures.{Measures}
 use Rattle.model.specs.declared.Side.{Side}
 use Rattle.model.specs.Cells.{sideNumber}
 use Rattle.model.specs.Windows.{borderCell, firstPlace, lastPlace}
+use Rattle.model.specs.Sectors.{sectorCells}
 use Rattle.model.specs.Portals.{sectorPortals, hallPortals, portalCount, arcCount, portalSector, portalSide, portalWindow, arcTail, arcPlace, portalMark, isPortal, headOf, key, portalGraph}
 use Rattle.model.specs.LeastPath.{cellRank, nodeRank, unlinked, keysTo, leastPath}
 use Rattle.model.specs.PortalEdges.{weight-low, head-portal, portal-sound}
@@ -74,11 +75,11 @@ abbrev pub Best : Measures → List ℕ → ℕ → Type 0
 Best m st best = (best ≡ portalCount m) ⊎ (isPortal (decode st) best ≡ true)
 
 -- a rank from its parts
-pub rank-is : (st : List ℕ) (p : ℕ) {side : Side} {a b : ℕ} → side ≡ portalSide p → a ≡ cellRank (borderCell side (firstPlace (portalMark (decode st) p) (portalWindow p)))
+pub rank-is : (st : List ℕ) (p : ℕ) {side : Side} {s a b k : ℕ} → side ≡ portalSide p → s ≡ portalSector p → a ≡ cellRank (borderCell side (firstPlace (portalMark (decode st) p) (portalWindow p)))
     → b ≡ cellRank (borderCell side (lastPlace (portalMark (decode st) p) (portalWindow p)))
-    → ((portalSector p * 100 + a) * 100 + b) * 4 + sideNumber side ≡ nodeRank (decode st) p
+    → k ≡ sideNumber side → ((s * sectorCells + a) * sectorCells + b) * 4 + k ≡ nodeRank (decode st) p
 unfolding nodeRank
-rank-is st p e f g = rw (f, g, e)
+rank-is st p e s f g k = rw (k, s, f, g, e)
 
 module _ (m : Measures) (table : List ℕ) (rank : ℕ → ℕ) (a best : ℕ) where
   pub better-none : best ≡ portalCount m → true ≡ better (tableGraph m table) rank a best

@@ -17,6 +17,7 @@ use fields::sides::side_number;
 use graph::portals::SECTOR_PORTALS;
 use graph::portals::head_of;
 use graph::portals::portal_run;
+use graph::portals::portal_sector;
 use graph::portals::portal_side;
 use model::Measures;
 use model::Side;
@@ -43,7 +44,7 @@ fn node_rank(st: &[u8], m: Measures, p: usize) -> usize
     let run = portal_run(st, m, p);
     let first = border_rank(side, run.first);
     let last = border_rank(side, run.last);
-    ((p / SECTOR_PORTALS * SECTOR_CELLS + first) * SECTOR_CELLS + last) * 4 + side_number(side)
+    ((portal_sector(p) * SECTOR_CELLS + first) * SECTOR_CELLS + last) * 4 + side_number(side)
 }
 
 // Whether portal v comes before the best so far; the number of all portals says that there is none yet.

@@ -15,8 +15,8 @@ ghost use Rattle.path.specs.PortalPaths.{PortalPath};
 use fields::numbers::byte;
 use fields::numbers::wide;
 use fields::sectors::SECTOR_CELLS;
-use graph::portals::SECTOR_PORTALS;
 use graph::portals::midpoint;
+use graph::portals::portal_sector;
 use graph::portals::window_of_portal;
 use model::Measures;
 use model::RouteStep;
@@ -58,7 +58,7 @@ fn step_at(st: &[u8], m: Measures, p: usize) -> RouteStep
     requires { ⌜ Opened m (now st) × (isPortal (decode (now st)) p ≡ true) ⌝ }
     ensures { λ r. ⌜ r ≡ stepAt (decode (now (st .entry))) p ⌝ }
 {
-    let sector = sector_at(m, p / SECTOR_PORTALS);
+    let sector = sector_at(m, portal_sector(p));
     let goal = midpoint(st, m, p);
     let w = window_of_portal(st, m, p);
     RouteStep {
@@ -116,7 +116,7 @@ pub fn write_steps(st: &[u8], m: Measures, nodes: &[u16], n: usize, goal: usize,
     let at = 6 * count;
     write_last(
         m,
-        nodes[n - 1] as usize / SECTOR_PORTALS,
+        portal_sector(nodes[n - 1] as usize),
         goal,
         &mut list[at..],
     );

@@ -1,12 +1,12 @@
 -- `fill_number` fills the places of one number, by whether it is a portal's.
 use native.Mathlib.Omega.{arith}
-use mathlib.Core.Path.{_≡_, refl, ap, _∙_}
-use Prim.Native.Nat.{ℕ, _+_, _*_, _/_, _≤_, _<_}
+use mathlib.Core.Path.{_≡_, ap, _∙_}
+use Prim.Native.Nat.{ℕ, _+_, _*_, _≤_, _<_}
 use lib.ListN.{length}
 use denote.Ref.{now}
-use Rattle.model.specs.Sectors.{sectors, costsOf}
+use Rattle.model.specs.Sectors.{sectors, floorNumber, sectorOf, costsOf}
 use Rattle.model.specs.Halls.{Hall}
-use Rattle.model.specs.Portals.{hallPortals}
+use Rattle.model.specs.Portals.{sectorPortals, hallPortals, sectorArcs, portalSector}
 use Rattle.model.specs.Store.{decode}
 use Rattle.moves.specs.Levels.{openWords}
 use Rattle.graph.specs.Reading.{accepted-of, fits-of, measures-are}
@@ -28,13 +28,13 @@ are c = ap sectors (measures-are (S c .pre .0 .0))
 few : (c : tie.After-shared-slice-known4) → S c .args .p < hallPortals
 few c = omega (arith, accepted-of (S c .pre .0 .0) .few-sectors, S c .pre .0 .1)
 
-room : (c : tie.After-shared-slice-known4) → S c .args .p * 20 + 20 ≤ length (now (S c .args .table))
+room : (c : tie.After-shared-slice-known4) → S c .args .p * sectorPortals + sectorPortals ≤ length (now (S c .args .table))
 room c = omega (arith, S c .pre .0 .3 .long, are c, S c .pre .0 .1)
 
-inside : (c : tie.After-shared-slice-known4) (k : ℕ) → k < 20 → S c .args .p * 20 + k < sectors (H c .measures) * 400
+inside : (c : tie.After-shared-slice-known4) (k : ℕ) → k < sectorPortals → S c .args .p * sectorPortals + k < sectors (H c .measures) * sectorArcs
 inside c k l = omega (arith, are c, S c .pre .0 .1)
 
-mids-20 : (c : tie.After-shared-slice-known4) → length (now (S c .args .mids)) ≡ 20
+mids-20 : (c : tie.After-shared-slice-known4) → length (now (S c .args .mids)) ≡ sectorPortals
 mids-20 c = mids-long (H c) (S c .args .p) (S c .pre .0 .2)
 
 shared-slice-read-mid : tie.Need-shared-slice-read-mid
@@ -50,39 +50,41 @@ returns c =
     (λ k l. weight-none (H at) (S at .args .p) k l (inside at k l) (own-none (H at) (S at .args .p) (S at .pre .0 .2) (fits-of (S at .pre .0 .0)) (c .before .before .before .before .if1 .taken)))
 
 mul-moves-from : tie.Need-mul-moves-from
-mul-moves-from c = omega (arith, few (c .before))
+mul-moves-from c = omega (arith, few (c .before .before), c .portal-sector .ensures)
 
 add-moves-from : tie.Need-add-moves-from
-add-moves-from c = omega (arith, few (c .before .before), c .wide .ensures)
+add-moves-from c = omega (arith, few (c .before .before .before), c .before .portal-sector .ensures, c .wide .ensures)
 
 moves-from-requires : tie.Need-moves-from-requires
 moves-from-requires c κs =
-    let at = c .before .before .before in
-    let p = S at .args .p in
-    let sector : p / 20 ≡ (p / 20 * 100 + c .before .wide .result) / 100 = omega (arith, c .before .wide .ensures .0, c .before .before .if1 .left) in (
+    let sector = c .before .before in
+    let at = sector .before .before in
+    let same : portalSector (S at .args .p) ≡ sectorOf (floorNumber (sector .portal-sector .result) (c .before .wide .result)) =
+    omega (arith, sector .portal-sector .ensures, c .before .wide .ensures .0, sector .before .if1 .left) in (
       S at .pre .0 .0,
-      omega (arith, S at .pre .0 .1, c .before .wide .ensures .0, c .before .before .if1 .left),
+      omega (arith, S at .pre .0 .1, sector .portal-sector .ensures, c .before .wide .ensures .0, sector .before .if1 .left),
       S at .pre .1 .0
-          ∙ ap (λ (k : ℕ). openWords (costsOf (H at .scaled) k)) sector,
+          ∙ ap (λ (k : ℕ). openWords (costsOf (H at .scaled) k)) same,
       S at .pre .1 .1,
     )
 
 fill-places-requires : tie.Need-fill-places-requires
 fill-places-requires c κs =
     let spread = c .before .before .before .before .before .moves-from .ensures in
-    let at = c .before .before .before .before .before .before .before .before .before in
+    let at = c .before .before .before .before .before .before .before .before .before .before in
     (spread .long, spread .few, mids-20 at, few at, room at)
 
 returns-2 : tie.Need-returns-2
 returns-2 c =
     let spread = c .before .before .before .before .before .before .before .before .moves-from .ensures in
     let found = c .before .before .before .before .before .before .before .before .before .before .wide in
-    let at = c .before .before .before .before .before .before .before .before .before .before .before .before in
+    let sector = c .before .before .before .before .before .before .before .before .before .before .before in
+    let at = sector .before .before in
     let p = S at .args .p in
-    let own = own-some (H at) p (S at .pre .0 .2) (c .before .before .before .before .before .before .before .before .before .before .before .if1 .left) in
+    let own = own-some (H at) p (S at .pre .0 .2) (sector .before .if1 .left) in
     let moves =
-    moves-own (H at) p (found .result) refl (found .ensures .0 ∙ own .1)
-    (omega (arith, found .ensures .0, c .before .before .before .before .before .before .before .before .before .before .before .if1 .left)) (spread .found) in
+    moves-own (H at) p (found .result) (ap (λ (s : ℕ). floorNumber s (found .result)) (sector .portal-sector .ensures)) (found .ensures .0 ∙ own .1)
+    (omega (arith, found .ensures .0, sector .before .if1 .left)) (spread .found) in
     c .before .before .fill-places .ensures .grown _ _ (S at .pre .0 .3)
     (λ k l. weight-by (H at) p k l (inside at k l) (fits-of (S at .pre .0 .0)) (own .0) moves (S at .pre .0 .2) (c .before .before .before .before .before .outer-edge .ensures))
 
@@ -94,6 +96,7 @@ fill-number-spec =
     clear-places-requires
     (λ c. search needs)
     returns
+    (λ c κs. search needs)
     mul-moves-from
     (λ c κs. search needs)
     add-moves-from

@@ -10,7 +10,7 @@ returns : tie.Need-returns
 returns c = c .facing .ensures ∙ sym (head-own (bare (c .before .before .args .m)) (c .before .before .args .p) (c .before .before .args .c) (c .before .if1 .taken))
 
 returns-2 : tie.Need-returns-2
-returns-2 c = sym (head-other (bare (c .before .args .m)) (c .before .args .p) (c .before .args .c) (c .if1 .left))
+returns-2 c = let start = c .before .before in rw (c .portal-sector .ensures) (sym (head-other (bare (start .args .m)) (start .args .p) (start .args .c) (c .before .if1 .left)))
 
 pub head-of-spec : {M : Type 1} → statement M
-head-of-spec = tie.close (tie.spec (λ c κs. search needs) returns (λ c. search needs) (λ c. search needs) returns-2)
+head-of-spec = tie.close (tie.spec (λ c κs. search needs) returns (λ c κs. search needs) (λ c. search needs) (λ c. search needs) returns-2)

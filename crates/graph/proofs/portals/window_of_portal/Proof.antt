@@ -1,11 +1,7 @@
 -- `window_of_portal` finds the window by the mark of its side.
-use mathlib.Core.Path.{_∙_, ap₂}
-use Prim.Native.Nat.{ℕ}
+use mathlib.Core.Path.{_∙_}
 use denote.Ref.{now}
 use borrow.Author.Needs.{needs}
-use Rattle.model.specs.declared.Side.{Side}
-use Rattle.model.specs.Windows.{windowAt}
-use Rattle.model.specs.Portals.{portalWindow}
 use Rattle.model.specs.PortalNumbers.{portal-is}
 use Rattle.model.specs.Store.{decode}
 use Rattle.graph.specs.Reading.{portal-sector}
@@ -17,14 +13,15 @@ mark-of-requires c κs = let start = c .before .before in (start .pre .0, portal
 
 window-of-requires : tie.Need-window-of-requires
 window-of-requires c κs =
-    let start = c .before .before .before in
-    (c .mark-of .ensures .1, rw (c .mark-of .ensures .0) (portal-is (decode (now (start .args .st))) (start .args .p) (start .pre .1) .among))
+    let start = c .before .before .before .before in
+    let mark = c .before .mark-of .ensures in
+    (mark .1, rw (c .portal-window .ensures, mark .0) (portal-is (decode (now (start .args .st))) (start .args .p) (start .pre .1) .among))
 
 returns : tie.Need-returns
 returns c =
-    let side = c .before .before in
-    c .window-of .ensures ∙ ap₂ (λ (s : Side) (n : ℕ). windowAt s n (portalWindow (side .before .before .args .p))) (side .portal-side .ensures) (c .before .mark-of .ensures .0)
+    let mark = c .before .before in
+    c .window-of .ensures ∙ rw (mark .before .portal-side .ensures, mark .mark-of .ensures .0, c .before .portal-window .ensures)
 
 pub window-of-portal-spec : {M : Type 1} → statement M
 window-of-portal-spec =
-    tie.close (tie.spec (λ c κs. search needs) mark-of-requires window-of-requires returns)
+    tie.close (tie.spec (λ c κs. search needs) mark-of-requires (λ c κs. search needs) window-of-requires returns)

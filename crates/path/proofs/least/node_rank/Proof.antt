@@ -1,7 +1,7 @@
 -- `node_rank` puts sector, first cell, last cell and side into one number.
 use native.Mathlib.Omega.{arith}
 use mathlib.Core.Path.{ap, _∙_}
-use Prim.Native.Nat.{ℕ, _+_, _*_, _/_, _<_}
+use Prim.Native.Nat.{ℕ, _<_}
 use denote.Ref.{now}
 use borrow.Author.Needs.{needs}
 use Rattle.model.specs.Windows.{borderCell}
@@ -15,8 +15,8 @@ use Rattle.path.proofs.least.node_rank.Tie as tie
 abbrev S : tie.After-portal-run → tie.Start
 S c = c .before .before .before
 
-sector : (c : tie.After-border-rank2) → S (c .before .before) .args .p / 20 < 100
-sector c = let start = S (c .before .before) in omega (arith, portal-sector (start .pre .0) (start .args .p) (start .pre .1), accepted-of (start .pre .0) .few-sectors)
+sector : (c : tie.After-portal-sector) → c .portal-sector .result < 100
+sector c = let start = S (c .before .before .before) in omega (arith, c .portal-sector .ensures, portal-sector (start .pre .0) (start .args .p) (start .pre .1), accepted-of (start .pre .0) .few-sectors)
 
 border-rank-requires : tie.Need-border-rank-requires
 border-rank-requires c κs = c .portal-run .ensures .low-first
@@ -28,21 +28,21 @@ mul-result : tie.Need-mul-result
 mul-result c = omega (arith, sector c)
 
 add-result : tie.Need-add-result
-add-result c = omega (arith, sector c, c .before .border-rank .ensures .1)
+add-result c = omega (arith, sector c, c .before .before .border-rank .ensures .1)
 
 mul-result-2 : tie.Need-mul-result-2
-mul-result-2 c = omega (arith, sector c, c .before .border-rank .ensures .1)
+mul-result-2 c = omega (arith, sector c, c .before .before .border-rank .ensures .1)
 
 add-result-2 : tie.Need-add-result-2
-add-result-2 c = omega (arith, sector c, c .before .border-rank .ensures .1, c .border-rank2 .ensures .1)
+add-result-2 c = omega (arith, sector c, c .before .before .border-rank .ensures .1, c .before .border-rank2 .ensures .1)
 
 mul-result-3 : tie.Need-mul-result-3
-mul-result-3 c = omega (arith, sector c, c .before .border-rank .ensures .1, c .border-rank2 .ensures .1)
+mul-result-3 c = omega (arith, sector c, c .before .before .border-rank .ensures .1, c .before .border-rank2 .ensures .1)
 
 add-result-3 : tie.Need-add-result-3
-add-result-3 c = let at = c .before in omega (
+add-result-3 c = let at = c .before .before in omega (
   arith,
-  sector at,
+  sector (c .before),
   at .before .border-rank .ensures .1,
   at .border-rank2 .ensures .1,
   c .side-number .ensures,
@@ -51,14 +51,13 @@ add-result-3 c = let at = c .before in omega (
 
 returns : tie.Need-returns
 returns c =
-    let at = c .before .before .before in
+    let ranks = c .before .before in
+    let at = ranks .before .before in
     let start = S at in
     let side = at .before .portal-side in
-    let parts =
-    rank-is (now (start .args .st)) (start .args .p) (side .ensures)
-    (c .before .before .border-rank .ensures .0 ∙ ap (λ (i : ℕ). cellRank (borderCell (side .result) i)) (at .portal-run .ensures .begins))
-    (c .before .border-rank2 .ensures .0 ∙ ap (λ (i : ℕ). cellRank (borderCell (side .result) i)) (at .portal-run .ensures .ends)) in
-    ap (λ (k : ℕ). ((start .args .p / 20 * 100 + c .before .before .border-rank .result) * 100 + c .before .border-rank2 .result) * 4 + k) (c .side-number .ensures) ∙ parts
+    rank-is (now (start .args .st)) (start .args .p) (side .ensures) (c .before .portal-sector .ensures)
+    (ranks .before .border-rank .ensures .0 ∙ ap (λ (i : ℕ). cellRank (borderCell (side .result) i)) (at .portal-run .ensures .begins))
+    (ranks .border-rank2 .ensures .0 ∙ ap (λ (i : ℕ). cellRank (borderCell (side .result) i)) (at .portal-run .ensures .ends)) (c .side-number .ensures)
 
 pub node-rank-spec : {M : Type 1} → statement M
 node-rank-spec =
@@ -68,6 +67,7 @@ node-rank-spec =
     (λ c κs. search needs)
     border-rank-requires
     border-rank-requires-2
+    (λ c κs. search needs)
     mul-result
     add-result
     mul-result-2

@@ -25,23 +25,24 @@ step-is h p e s g w = rw (s, ← e, g, w)
 
 sector-at-requires : tie.Need-sector-at-requires
 sector-at-requires c κs =
-    let start = c .before in
+    let start = c .before .before in
     let few = accepted-of (start .pre .0) in
-    (few .some-rows, omega (arith, portal-sector (start .pre .0) (start .args .p) (start .pre .1), few .few-sectors))
+    (few .some-rows, omega (arith, c .portal-sector .ensures, portal-sector (start .pre .0) (start .args .p) (start .pre .1), few .few-sectors))
 
 returns : tie.Need-returns
 returns c =
     let window = c .before in
     let mid = window .before in
     let sector = mid .before in
-    let start = sector .before .before in
-    step-is (decode (now (start .args .st))) (start .args .p) (measures-are (start .pre .0)) (sector .sector-at .ensures) (c .byte .ensures ∙ mid .midpoint .ensures .0)
+    let start = sector .before .before .before in
+    step-is (decode (now (start .args .st))) (start .args .p) (measures-are (start .pre .0)) (rw (sector .before .portal-sector .ensures) at (sector .sector-at .ensures)) (c .byte .ensures ∙ mid .midpoint .ensures .0)
     (window .window-of-portal .ensures)
 
 pub step-at-spec : {M : Type 1} → statement M
 step-at-spec =
     tie.close
     (tie.spec
+    (λ c κs. search needs)
     sector-at-requires
     (λ c κs. search needs)
     (λ c κs. search needs)

@@ -3,7 +3,7 @@ use borrow.Author.Needs.{needs}
 use native.Mathlib.Omega.{arith}
 use mathlib.Core.Path.{_≡_, refl, sym, ap, ap₂, _∙_}
 use mathlib.Core.Bool.{true}
-use Prim.Native.Nat.{ℕ, _-_, _*_, _/_, _≤_, _<_}
+use Prim.Native.Nat.{ℕ, _-_, _*_, _≤_, _<_}
 use lib.ListN.{length, getD, take, length-take, length-drop}
 use lib.Seq.{length-take-le, getD-take}
 use mir.Val.{Fits}
@@ -42,7 +42,7 @@ module _ (c : tie.At-loop Inv-loop μ-loop) (k : ℕ) (l : k < S c .args .n) whe
   portal-at : isPortal (decode (now (S c .args .st))) (getD (now (S c .args .nodes)) k 0) ≡ true
   portal-at = rw (← in-path) (S c .pre .2 .each k (omega (arith, long c)))
 
-  sector-low : getD (now (S c .args .nodes)) k 0 / 20 < 256
+  sector-low : portalSector (getD (now (S c .args .nodes)) k 0) < 256
   sector-low = omega (arith, portal-sector (S c .pre .0) (getD (now (S c .args .nodes)) k 0) portal-at, accepted-of (S c .pre .0) .few-sectors)
 
   fits-at : Fits w64 (getD (now (S c .args .nodes)) k 0)
@@ -97,20 +97,20 @@ loop-again c =
 mul-at-2 : tie.Need-mul-at-2 Inv-loop μ-loop
 mul-at-2 c = search needs
 
+sub-portal-sector : tie.Need-sub-portal-sector Inv-loop μ-loop
+sub-portal-sector c = omega (arith, some (c .before))
+
+mul-portal-sector : tie.Need-mul-portal-sector Inv-loop μ-loop
+mul-portal-sector c = search needs
+
+shared-slice-read-portal-sector : tie.Need-shared-slice-read-portal-sector Inv-loop μ-loop
+shared-slice-read-portal-sector c = let at = c .before .before in omega (arith, some at, S at .pre .1)
+
+cast-portal-sector : tie.Need-cast-portal-sector Inv-loop μ-loop
+cast-portal-sector c = fits-at (c .before .before) _ (omega (arith, some (c .before .before)))
+
 sub-write-last : tie.Need-sub-write-last Inv-loop μ-loop
-sub-write-last c = omega (arith, some (c .before))
-
-mul-write-last : tie.Need-mul-write-last Inv-loop μ-loop
-mul-write-last c = search needs
-
-shared-slice-read-write-last : tie.Need-shared-slice-read-write-last Inv-loop μ-loop
-shared-slice-read-write-last c = let at = c .before .before in omega (arith, some at, S at .pre .1)
-
-cast-write-last : tie.Need-cast-write-last Inv-loop μ-loop
-cast-write-last c = fits-at (c .before .before) _ (omega (arith, some (c .before .before)))
-
-sub-write-last-2 : tie.Need-sub-write-last-2 Inv-loop μ-loop
-sub-write-last-2 c = search needs
+sub-write-last c = search needs
 
 part-write-last-start : tie.Need-part-write-last-start Inv-loop μ-loop
 part-write-last-start c = search needs
@@ -120,8 +120,8 @@ part-write-last-end c = search needs
 
 write-last-requires : tie.Need-write-last-requires Inv-loop μ-loop
 write-last-requires c κs =
-    let at = c .before .before .before in
-    (accepted-of (S at .pre .0) .some-rows, sector-low at _ (omega (arith, some at)), simp (length-take, length-drop) (omega (arith, at .loop .inv .same, S at .pre .3)))
+    let at = c .before .before .before .before in
+    (accepted-of (S at .pre .0) .some-rows, rw (c .before .portal-sector .ensures) (sector-low at _ (omega (arith, some at))), simp (length-take, length-drop) (omega (arith, at .loop .inv .same, S at .pre .3)))
 
 same-length : tie.Need-same-length Inv-loop μ-loop
 same-length c = search needs
@@ -129,11 +129,12 @@ same-length c = search needs
 returns : tie.Need-returns Inv-loop μ-loop
 returns c =
     let last = c .before .before in
-    let at = last .before .before .before .before in
+    let portal = last .before .before in
+    let at = portal .before .before .before in
     let n = S at .args .n in
     let sector =
     ap₂ (λ (m : Measures) (p : ℕ). lastStep (sectorAt m (portalSector p)) (placeOf (S at .args .goal))) (sym (measures-are (S at .pre .0))) (sym (in-path at (n - 1) (omega (arith, some at)))) in
-    stepped-end (at .loop .inv) (S at .pre .3) (S at .args .goal) n (some at) (long at) refl (omega arith) sector (last .write-last .ensures)
+    stepped-end (at .loop .inv) (S at .pre .3) (S at .args .goal) n (some at) (long at) refl (omega arith) sector (rw (portal .portal-sector .ensures) at (last .write-last .ensures))
 
 pub write-steps-spec : {M : Type 1} → statement M
 write-steps-spec =
@@ -156,11 +157,12 @@ write-steps-spec =
     loop-less
     loop-again
     mul-at-2
+    sub-portal-sector
+    mul-portal-sector
+    shared-slice-read-portal-sector
+    cast-portal-sector
+    (λ c κs. search needs)
     sub-write-last
-    mul-write-last
-    shared-slice-read-write-last
-    cast-write-last
-    sub-write-last-2
     part-write-last-start
     part-write-last-end
     write-last-requires
