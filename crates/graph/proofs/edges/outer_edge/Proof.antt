@@ -27,8 +27,8 @@ returns-2 c =
     let at = c .before .before .before in
     let side = at .before .before in
     let start = side .before .before .before in
-    outer-is (start .pre .0) (start .args .p) true true (side .before .portal-sector .ensures) (side .portal-side .ensures) (at .before .has-beyond .ensures) (not-false _ (at .if1 .left)) (c .before .before .facing .ensures)
-    (c .before .is-portal .ensures) (c .if2 .taken)
+    outer-is (start .pre .0) (start .args .p) true true (side .before .portal-sector .ensures) (side .portal-side .ensures) (at .before .has-beyond .ensures) (not-false _ (at .if1 .left))
+    (c .before .before .facing .ensures) (c .before .is-portal .ensures) (c .if2 .taken)
 
 returns-3 : tie.Need-returns-3
 returns-3 c =

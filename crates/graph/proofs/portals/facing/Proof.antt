@@ -27,18 +27,6 @@ same : (m : Measures) (p : ℕ) {side back : Side} {t s k j : ℕ} → side ≡ 
 unfolding facing
 same m p e t f g k j = rw (j, k, g, f, t, e)
 
-mul-result : tie.Need-mul-result
-mul-result c = omega (arith, far c)
-
-mul-result-2 : tie.Need-mul-result-2
-mul-result-2 c = omega (arith, near c)
-
-add-result : tie.Need-add-result
-add-result c = omega (arith, near c, far (c .before .before))
-
-add-result-2 : tie.Need-add-result-2
-add-result-2 c = omega (arith, near (c .before), far (c .before .before .before))
-
 returns : tie.Need-returns
 returns c =
     let number = c .before in
@@ -54,11 +42,11 @@ facing-spec =
     (λ c κs. search needs)
     (λ c κs. search needs)
     (λ c κs. search needs)
-    mul-result
+    (λ c. omega (arith, far c))
     (λ c κs. search needs)
     (λ c κs. search needs)
-    mul-result-2
-    add-result
+    (λ c. omega (arith, near c))
+    (λ c. omega (arith, near c, far (c .before .before)))
     (λ c κs. search needs)
-    add-result-2
+    (λ c. omega (arith, near (c .before), far (c .before .before .before)))
     returns)

@@ -18,16 +18,10 @@ returns-2 c =
     let at = c .before .before .before .before in
     let start = at .before .before .before in
     let mark = c .before .mark-of .ensures in
-    rw (c .before .before .portal-window .ensures) (window-test (start .pre) (start .args .p) (c .window-count .result) (omega (arith, at .before .sectors .ensures, at .portal-sector .ensures)) (c .window-count .ensures .1 (mark .1) ∙ ap windowCount (mark .0)))
+    rw (c .before .before .portal-window .ensures)
+    (window-test (start .pre) (start .args .p) (c .window-count .result) (omega (arith, at .before .sectors .ensures, at .portal-sector .ensures))
+    (c .window-count .ensures .1 (mark .1) ∙ ap windowCount (mark .0)))
 
 pub is-portal-spec : {M : Type 1} → statement M
 is-portal-spec =
-    tie.close
-    (tie.spec
-    (λ c κs. search needs)
-    (λ c κs. search needs)
-    returns
-    (λ c κs. search needs)
-    mark-of-requires
-    (λ c κs. search needs)
-    returns-2)
+    tie.close (tie.spec (λ c κs. search needs) (λ c κs. search needs) returns (λ c κs. search needs) mark-of-requires (λ c κs. search needs) returns-2)

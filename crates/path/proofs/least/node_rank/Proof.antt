@@ -16,28 +16,9 @@ abbrev S : tie.After-portal-run → tie.Start
 S c = c .before .before .before
 
 sector : (c : tie.After-portal-sector) → c .portal-sector .result < 100
-sector c = let start = S (c .before .before .before) in omega (arith, c .portal-sector .ensures, portal-sector (start .pre .0) (start .args .p) (start .pre .1), accepted-of (start .pre .0) .few-sectors)
-
-border-rank-requires : tie.Need-border-rank-requires
-border-rank-requires c κs = c .portal-run .ensures .low-first
-
-border-rank-requires-2 : tie.Need-border-rank-requires-2
-border-rank-requires-2 c κs = c .before .portal-run .ensures .low-last
-
-mul-result : tie.Need-mul-result
-mul-result c = omega (arith, sector c)
-
-add-result : tie.Need-add-result
-add-result c = omega (arith, sector c, c .before .before .border-rank .ensures .1)
-
-mul-result-2 : tie.Need-mul-result-2
-mul-result-2 c = omega (arith, sector c, c .before .before .border-rank .ensures .1)
-
-add-result-2 : tie.Need-add-result-2
-add-result-2 c = omega (arith, sector c, c .before .before .border-rank .ensures .1, c .before .border-rank2 .ensures .1)
-
-mul-result-3 : tie.Need-mul-result-3
-mul-result-3 c = omega (arith, sector c, c .before .before .border-rank .ensures .1, c .before .border-rank2 .ensures .1)
+sector c =
+    let start = S (c .before .before .before) in
+    omega (arith, c .portal-sector .ensures, portal-sector (start .pre .0) (start .args .p) (start .pre .1), accepted-of (start .pre .0) .few-sectors)
 
 add-result-3 : tie.Need-add-result-3
 add-result-3 c = let at = c .before .before in omega (
@@ -65,14 +46,14 @@ node-rank-spec =
     (tie.spec
     (λ c κs. search needs)
     (λ c κs. search needs)
-    border-rank-requires
-    border-rank-requires-2
+    (λ c κs. c .portal-run .ensures .low-first)
+    (λ c κs. c .before .portal-run .ensures .low-last)
     (λ c κs. search needs)
-    mul-result
-    add-result
-    mul-result-2
-    add-result-2
-    mul-result-3
+    (λ c. omega (arith, sector c))
+    (λ c. omega (arith, sector c, c .before .before .border-rank .ensures .1))
+    (λ c. omega (arith, sector c, c .before .before .border-rank .ensures .1))
+    (λ c. omega (arith, sector c, c .before .before .border-rank .ensures .1, c .before .border-rank2 .ensures .1))
+    (λ c. omega (arith, sector c, c .before .before .border-rank .ensures .1, c .before .border-rank2 .ensures .1))
     (λ c κs. search needs)
     add-result-3
     returns)

@@ -35,8 +35,8 @@ returns c =
     let mid = window .before in
     let sector = mid .before in
     let start = sector .before .before .before in
-    step-is (decode (now (start .args .st))) (start .args .p) (measures-are (start .pre .0)) (rw (sector .before .portal-sector .ensures) at (sector .sector-at .ensures)) (c .byte .ensures ∙ mid .midpoint .ensures .0)
-    (window .window-of-portal .ensures)
+    step-is (decode (now (start .args .st))) (start .args .p) (measures-are (start .pre .0)) (rw (sector .before .portal-sector .ensures) at (sector .sector-at .ensures))
+    (c .byte .ensures ∙ mid .midpoint .ensures .0) (window .window-of-portal .ensures)
 
 pub step-at-spec : {M : Type 1} → statement M
 step-at-spec =

@@ -51,41 +51,11 @@ module _ (c : tie.At-loop Inv-loop μ-loop) (k : ℕ) (l : k < S c .args .n) whe
 loop-holds : tie.Need-loop-holds Inv-loop μ-loop
 loop-holds c = search (needs, stepped-none)
 
-mul-at : tie.Need-mul-at Inv-loop μ-loop
-mul-at c = search needs
-
-sub-put-step : tie.Need-sub-put-step Inv-loop μ-loop
-sub-put-step c = search needs
-
-part-put-step-start : tie.Need-part-put-step-start Inv-loop μ-loop
-part-put-step-start c = search needs
-
-part-put-step-end : tie.Need-part-put-step-end Inv-loop μ-loop
-part-put-step-end c = search needs
-
-mul-step-at : tie.Need-mul-step-at Inv-loop μ-loop
-mul-step-at c = search needs
-
-mul-step-at-2 : tie.Need-mul-step-at-2 Inv-loop μ-loop
-mul-step-at-2 c = search needs
-
-shared-slice-read-step-at : tie.Need-shared-slice-read-step-at Inv-loop μ-loop
-shared-slice-read-step-at c = search needs
-
 cast-step-at : tie.Need-cast-step-at Inv-loop μ-loop
 cast-step-at c = fits-at (c .before .before .before) _ (omega arith)
 
 step-at-requires : tie.Need-step-at-requires Inv-loop μ-loop
 step-at-requires c κs = let at = c .before .before .before in (S at .pre .0, portal-at at _ (omega arith))
-
-put-step-requires : tie.Need-put-step-requires Inv-loop μ-loop
-put-step-requires c κs = search needs
-
-add-i : tie.Need-add-i Inv-loop μ-loop
-add-i c = search needs
-
-loop-less : tie.Need-loop-less Inv-loop μ-loop
-loop-less c = search needs
 
 loop-again : tie.Need-loop-again Inv-loop μ-loop
 loop-again c =
@@ -94,14 +64,8 @@ loop-again c =
     stepped-turn (at .loop .inv) (S at .pre .3) (omega arith) (put .before .step-at .ensures ∙ ap (stepAt (decode (now (S at .args .st)))) (sym (in-path at (2 * at .loop .i) (omega arith))))
     (put .put-step .ensures)
 
-mul-at-2 : tie.Need-mul-at-2 Inv-loop μ-loop
-mul-at-2 c = search needs
-
 sub-portal-sector : tie.Need-sub-portal-sector Inv-loop μ-loop
 sub-portal-sector c = omega (arith, some (c .before))
-
-mul-portal-sector : tie.Need-mul-portal-sector Inv-loop μ-loop
-mul-portal-sector c = search needs
 
 shared-slice-read-portal-sector : tie.Need-shared-slice-read-portal-sector Inv-loop μ-loop
 shared-slice-read-portal-sector c = let at = c .before .before in omega (arith, some at, S at .pre .1)
@@ -109,22 +73,11 @@ shared-slice-read-portal-sector c = let at = c .before .before in omega (arith, 
 cast-portal-sector : tie.Need-cast-portal-sector Inv-loop μ-loop
 cast-portal-sector c = fits-at (c .before .before) _ (omega (arith, some (c .before .before)))
 
-sub-write-last : tie.Need-sub-write-last Inv-loop μ-loop
-sub-write-last c = search needs
-
-part-write-last-start : tie.Need-part-write-last-start Inv-loop μ-loop
-part-write-last-start c = search needs
-
-part-write-last-end : tie.Need-part-write-last-end Inv-loop μ-loop
-part-write-last-end c = search needs
-
 write-last-requires : tie.Need-write-last-requires Inv-loop μ-loop
 write-last-requires c κs =
     let at = c .before .before .before .before in
-    (accepted-of (S at .pre .0) .some-rows, rw (c .before .portal-sector .ensures) (sector-low at _ (omega (arith, some at))), simp (length-take, length-drop) (omega (arith, at .loop .inv .same, S at .pre .3)))
-
-same-length : tie.Need-same-length Inv-loop μ-loop
-same-length c = search needs
+    let low : c .before .portal-sector .result < 256 = rw (c .before .portal-sector .ensures) (sector-low at _ (omega (arith, some at))) in
+    (accepted-of (S at .pre .0) .some-rows, low, simp (length-take, length-drop) (omega (arith, at .loop .inv .same, S at .pre .3)))
 
 returns : tie.Need-returns Inv-loop μ-loop
 returns c =
@@ -143,28 +96,28 @@ write-steps-spec =
     Inv-loop
     μ-loop
     loop-holds
-    mul-at
-    sub-put-step
-    part-put-step-start
-    part-put-step-end
-    mul-step-at
-    mul-step-at-2
-    shared-slice-read-step-at
+    (λ c. search needs)
+    (λ c. search needs)
+    (λ c. search needs)
+    (λ c. search needs)
+    (λ c. search needs)
+    (λ c. search needs)
+    (λ c. search needs)
     cast-step-at
     step-at-requires
-    put-step-requires
-    add-i
-    loop-less
+    (λ c κs. search needs)
+    (λ c. search needs)
+    (λ c. search needs)
     loop-again
-    mul-at-2
+    (λ c. search needs)
     sub-portal-sector
-    mul-portal-sector
+    (λ c. search needs)
     shared-slice-read-portal-sector
     cast-portal-sector
     (λ c κs. search needs)
-    sub-write-last
-    part-write-last-start
-    part-write-last-end
+    (λ c. search needs)
+    (λ c. search needs)
+    (λ c. search needs)
     write-last-requires
-    same-length
+    (λ c. search needs)
     returns)
