@@ -74,7 +74,10 @@ joins key leg last low = go (ltb leg apart) (ltb last apart) (ltb key unlinked) 
     go true false c e f g l = absurd (omega arith)
     go true true false e f g l = absurd (omega arith)
 
--- the run of pair j: from place j / 20 of the start sector to place j % 20 of the end sector, whose first numbers are p and q
+-- the pairs of two sectors, and the run of pair j: from place j / 20 of the start sector to place j % 20 of the end sector, whose first numbers are p and q
+abbrev pub sectorPairs : ℕ
+sectorPairs = sectorPortals * sectorPortals
+
 abbrev pub pairRun : Graph → List ℕ → List ℕ → ℕ → ℕ → ℕ → ℕ
 pairRun g legs lasts p q j = runFor (getD (keysTo g (q + j % sectorPortals)) (p + j / sectorPortals) 0) (getD legs (j / sectorPortals) 0) (getD lasts (j % sectorPortals) 0)
 
@@ -98,7 +101,7 @@ module _ (h : Hall) (source goal : ℕ) where
 
   -- pair j is 01's pair
   pub record Chosen (j : ℕ) : Type 0 where
-    pub low : j < 400
+    pub low : j < sectorPairs
     pub joined-by : Joins (keyAt j) (legAt j) (lastAt j)
     pub wins : chosenPair h (portalGraph h) source goal ≡ some (pairAt j)
 
@@ -110,7 +113,7 @@ module _ (h : Hall) (source goal : ℕ) where
         (λ p. isPortal h p && joined (h .scaled) (midCell h p) goal)
         (sectorOf source * sectorPortals) (sectorOf goal * sectorPortals)
 
-    pairs-are : routePairs h (portalGraph h) source goal ≡ spans cells 400 0
+    pairs-are : routePairs h (portalGraph h) source goal ≡ spans cells sectorPairs 0
     unfolding routePairs starts ends cells
     pairs-are =
         pairs-in-row linkedPair (endOf h (portalGraph h) goal)
@@ -118,12 +121,12 @@ module _ (h : Hall) (source goal : ℕ) where
         (λ p. isPortal h p && joined (h .scaled) (midCell h p) goal)
         (sectorOf source * sectorPortals) (sectorOf goal * sectorPortals)
 
-    cell-is : (j : ℕ) → j < 400 → cells j ≡ pick (ltb (legAt j) apart) (pick (ltb (lastAt j) apart) (pick (ltb (keyAt j) unlinked) (pairAt j ∷ []) []) []) []
+    cell-is : (j : ℕ) → j < sectorPairs → cells j ≡ pick (ltb (legAt j) apart) (pick (ltb (lastAt j) apart) (pick (ltb (keyAt j) unlinked) (pairAt j ∷ []) []) []) []
     unfolding cells linkedPair endOf
     cell-is j l = rw (start-test h fits source (j / sectorPortals) (omega arith), end-test h fits goal (j % sectorPortals) (omega arith))
 
     -- what stands at place j
-    module _ (j : ℕ) (l : j < 400) where
+    module _ (j : ℕ) (l : j < sectorPairs) where
       held : Joins (keyAt j) (legAt j) (lastAt j) → cells j ≡ pairAt j ∷ []
       held z = cell-is j l ∙ rw (lt-ltb (legAt j) apart (z .near-start), lt-ltb (lastAt j) apart (z .near-end), lt-ltb (keyAt j) unlinked (z .linked))
 
@@ -146,13 +149,13 @@ module _ (h : Hall) (source goal : ℕ) where
           go true true false e f g = let r = read true true false e f g in empty (r .0) (omega (arith, r .1))
 
     -- THE CHOSEN PAIR: none, or the foremost
-    module _ {r : ℕ} (f : Foremost runAt unlinked 400 r) where
-      pub chosen-none : 400 ≤ r → chosenPair h (portalGraph h) source goal ≡ none
+    module _ {r : ℕ} (f : Foremost runAt unlinked sectorPairs r) where
+      pub chosen-none : sectorPairs ≤ r → chosenPair h (portalGraph h) source goal ≡ none
       unfolding chosenPair
-      chosen-none past = ap (winner runOf none) pairs-are ∙ row-none runOf cells runAt unlinked 400 place f past
+      chosen-none past = ap (winner runOf none) pairs-are ∙ row-none runOf cells runAt unlinked sectorPairs place f past
 
-      pub chosen-some : r < 400 → Chosen r
+      pub chosen-some : r < sectorPairs → Chosen r
       unfolding chosenPair
       chosen-some l =
           let z = joins (keyAt r) (legAt r) (lastAt r) (foremost-is f l .0) in
-          record { low = l; joined-by = z; wins = ap (winner runOf none) pairs-are ∙ row-some runOf cells runAt unlinked 400 place f l (held r l z) }
+          record { low = l; joined-by = z; wins = ap (winner runOf none) pairs-are ∙ row-some runOf cells runAt unlinked sectorPairs place f l (held r l z) }

@@ -8,7 +8,7 @@ ghost use Rattle.model.specs.Portals.{sectorPortals, hallPortals, portalCount};
 ghost use Rattle.model.specs.LeastPath.{unlinked};
 ghost use Rattle.graph.specs.EdgeTable.{tableGraph};
 ghost use Rattle.search.specs.Searching.{Searched};
-ghost use Rattle.choice.specs.Choosing.{runFor, pairRun};
+ghost use Rattle.choice.specs.Choosing.{runFor, sectorPairs, pairRun};
 ghost use Rattle.choice.specs.FirstPair.{placeRun};
 use crate::ends::keys_to_goal;
 use graph::edges::KEY_STEP;
@@ -68,7 +68,7 @@ pub fn choose_pair(
 ) -> usize
     requires { ⌜ Searched m (now table) (length (now keys)) hallPortals × (p + sectorPortals ≤ portalCount m) × (q + sectorPortals ≤ portalCount m) × (length (now legs) ≡ sectorPortals) × (length (now lasts) ≡ sectorPortals) ⌝ }
     requires { ⌜ BothWays (tableGraph m (now table)) ⌝ }
-    ensures { λ r. ⌜ Foremost (pairRun (tableGraph m (now (table .entry))) (now (legs .entry)) (now (lasts .entry)) p q) unlinked (sectorPortals * sectorPortals) r ⌝ }
+    ensures { λ r. ⌜ Foremost (pairRun (tableGraph m (now (table .entry))) (now (legs .entry)) (now (lasts .entry)) p q) unlinked sectorPairs r ⌝ }
 {
     let zeros: [u8; SECTOR_PORTALS] = [0; SECTOR_PORTALS];
     keys_to_goal(m, table, q, lasts, keys);

@@ -1,5 +1,5 @@
 -- The weights of the portal graph as one list by arc number, and the graph that such a list stands for.
-use Prim.Native.Nat.{ℕ, _+_, _*_, _/_, _%_, _≤_, _<_}
+use Prim.Native.Nat.{ℕ, _+_, _*_, _≤_, _<_}
 use native.Mathlib.Nat.{add-zero}
 use native.Mathlib.Omega.{arith}
 use mathlib.Core.Path.{_≡_, refl, sym, ap, subst, _∙_}
@@ -50,9 +50,9 @@ table-weight h e = go (below-or e (arcCount (h .measures)))
     go : (e < arcCount (h .measures)) ⊎ (arcCount (h .measures) ≤ e) → getD (edgeTable h) e 0 ≡ portalGraph h .weight e
     go (inl l) = tabulate-at (λ a. portalGraph h .weight a) (arcCount (h .measures)) e 0 l
     go (inr l) =
-        let past : length (tabulate (edgesOf h) (portalCount (h .measures)) 0) ≤ e / 20 = omega (arith, length-tabulate (edgesOf h) (portalCount (h .measures)) 0) in
+        let past : length (tabulate (edgesOf h) (portalCount (h .measures)) 0) ≤ arcTail e = omega (arith, length-tabulate (edgesOf h) (portalCount (h .measures)) 0) in
         List·getD-eq-default (edgeTable h) 0 (omega (arith, length-table h))
-        ∙ sym (ap (λ (row : List ℕ). getD row (e % 20) 0) (List·getD-eq-default (tabulate (edgesOf h) (portalCount (h .measures)) 0) [] past))
+        ∙ sym (ap (λ (row : List ℕ). getD row (arcPlace e) 0) (List·getD-eq-default (tabulate (edgesOf h) (portalCount (h .measures)) 0) [] past))
 
 pub table-graph : (h : Hall) → tableGraph (h .measures) (edgeTable h) ≡ portalGraph h
 unfolding portalGraph headOf facing

@@ -12,7 +12,7 @@ use Rattle.laws.specs.Fold.{pick}
 use Rattle.laws.specs.Search.{both}
 use Rattle.laws.specs.Graph.{below-or}
 use Rattle.laws.specs.Table.{tabulate, tabulate-at, table-at, Tabled, tabled-same, tabled-all}
-use Rattle.model.specs.Sectors.{sectorOf, placeOf, costsOf}
+use Rattle.model.specs.Sectors.{sectorCells, sectorOf, placeOf, costsOf}
 use Rattle.model.specs.Moves.{moves, movesTo, joined, apart}
 use Rattle.model.specs.MovesFewest.{joined-back, moves-settled}
 use Rattle.model.specs.Halls.{Hall}
@@ -21,14 +21,14 @@ use Rattle.model.specs.PortalCrossings.{Fits, mid-low, mid-sector, mid-place}
 
 -- the index of a portal's midpoint, or 100
 unfoldable pub midOf : Hall → ℕ → ℕ
-midOf h p = pick (isPortal h p) (midpoint h p) 100
+midOf h p = pick (isPortal h p) (midpoint h p) sectorCells
 
 unfoldable pub sectorMids : Hall → ℕ → List ℕ
 sectorMids h s = tabulate (λ c. midOf h (placePortal s c)) sectorPortals 0
 
 -- the moves to a midpoint, by the moves to the cells of its sector
 unfoldable pub nearBy : List ℕ → ℕ → ℕ
-nearBy from mid = pick (ltb mid 100) (getD from mid 0) apart
+nearBy from mid = pick (ltb mid sectorCells) (getD from mid 0) apart
 
 -- from cell x to the portals of its sector
 unfoldable pub portalMoves : Hall → ℕ → List ℕ
@@ -39,17 +39,17 @@ pub mid-some : (h : Hall) (p : ℕ) {n : ℕ} → isPortal h p ≡ true → n �
 unfolding midOf
 mid-some h p e f = rw e f
 
-pub mid-none : (h : Hall) (p : ℕ) → isPortal h p ≡ false → 100 ≡ midOf h p
+pub mid-none : (h : Hall) (p : ℕ) → isPortal h p ≡ false → sectorCells ≡ midOf h p
 unfolding midOf
 mid-none h p e = rw e refl
 
-pub near-none : (from : List ℕ) (mid : ℕ) → 100 ≤ mid → apart ≡ nearBy from mid
+pub near-none : (from : List ℕ) (mid : ℕ) → sectorCells ≤ mid → apart ≡ nearBy from mid
 unfolding nearBy
-near-none from mid l = rw (le-ltb mid 100 l)
+near-none from mid l = rw (le-ltb mid sectorCells l)
 
-pub near-some : (from : List ℕ) (mid : ℕ) {n : ℕ} → mid < 100 → n ≡ mid → getD from n 0 ≡ nearBy from mid
+pub near-some : (from : List ℕ) (mid : ℕ) {n : ℕ} → mid < sectorCells → n ≡ mid → getD from n 0 ≡ nearBy from mid
 unfolding nearBy
-near-some from mid l e = rw (lt-ltb mid 100 l, e)
+near-some from mid l e = rw (lt-ltb mid sectorCells l, e)
 
 pub other-sector : (costs : List ℕ) (x y : ℕ) → (sectorOf x ≡ sectorOf y → ⊥) → apart ≡ pick (joined costs x y) (movesTo costs x y) apart
 unfolding joined
@@ -108,7 +108,7 @@ module _ (h : Hall) (fits : Fits h) (x c : ℕ) (low : c < sectorPortals) where
   there : isPortal h number ≡ true → There
   unfolding midOf nearBy movesTo
   there e =
-      record { sector = omega (arith, mid-sector h fits number e); moved = entry-is ∙ rw (e, lt-ltb (midpoint h number) 100 (mid-low h fits number e), mid-place h fits number e) }
+      record { sector = omega (arith, mid-sector h fits number e); moved = entry-is ∙ rw (e, lt-ltb (midpoint h number) sectorCells (mid-low h fits number e), mid-place h fits number e) }
 
   -- THE STARTS AND ENDS: a number's portal is joined to the cell exactly where the entry is below `apart`
   pub start-test : (isPortal h number && joined (h .scaled) x (midCell h number)) ≡ ltb (getD (portalMoves h x) c 0) apart

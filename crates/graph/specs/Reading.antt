@@ -1,5 +1,5 @@
 -- What a store that passes the check shows of its portals: sizes, marks, and windows with their places.
-use Prim.Native.Nat.{ℕ, _+_, _*_, _/_, _%_, _≤_, _<_}
+use Prim.Native.Nat.{ℕ, _+_, _*_, _/_, _≤_, _<_}
 use native.Mathlib.Omega.{arith}
 use mathlib.Core.Path.{_≡_, refl, sym, ap, _∙_}
 use mathlib.Core.Bool.{true, false}
@@ -7,11 +7,11 @@ use mathlib.Core.List.{List}
 use lib.Dec.{ltb}
 use lib.ListN.{length, getD}
 use Rattle.model.specs.declared.Measures.{Measures}
-use Rattle.model.specs.Cells.{sideNumber, sideAt}
+use Rattle.model.specs.Cells.{sideNumber}
 use Rattle.model.specs.Sectors.{sectors, costsOf}
 use Rattle.model.specs.Accepted.{Accepted}
 use Rattle.model.specs.Windows.{windowCount, firstPlace, lastPlace}
-use Rattle.model.specs.Portals.{portalSector, portalWindow, portalMark, isPortal}
+use Rattle.model.specs.Portals.{sidePortals, portalSector, portalSide, portalPlace, portalWindow, portalMark, isPortal}
 use Rattle.model.specs.Sides.{number-side}
 use Rattle.model.specs.PortalNumbers.{portal-is, portal-none, portal-test}
 use Rattle.model.specs.PortalCrossings.{Fits, portal-run}
@@ -47,14 +47,14 @@ module _ {m : Measures} {st : List ℕ} (o : Opened m st) where
   sector-read s e = e ∙ ap (λ h. costsOf (h .scaled) s) (hall-read st (o .read))
 
   -- the mark of a portal's side
-  pub mark-read : (p : ℕ) → portalSector p < sectors m → getD (marksIn m st) (p / 5) 0 ≡ portalMark (decode st) p
+  pub mark-read : (p : ℕ) → portalSector p < sectors m → getD (marksIn m st) (p / sidePortals) 0 ≡ portalMark (decode st) p
   unfolding decode
   mark-read p =
-      let place : p / 20 * 4 + sideNumber (sideAt (p % 20 / 5)) ≡ p / 5 = omega (arith, number-side (p % 20 / 5) (omega arith)) in
+      let place : portalSector p * 4 + sideNumber (portalSide p) ≡ p / sidePortals = omega (arith, number-side (portalPlace p / sidePortals) (omega arith)) in
       rw (o .read, place) (λ l. refl)
 
   pub mark-low : (p : ℕ) → portalMark (decode st) p ≤ 1023
-  mark-low p = omega (arith, fits-of .marked (p / 20) (sideAt (p % 20 / 5)))
+  mark-low p = omega (arith, fits-of .marked (portalSector p) (portalSide p))
 
   pub no-sector : (p : ℕ) → sectors m ≤ portalSector p → false ≡ isPortal (decode st) p
   no-sector p l = sym (portal-none (decode st) p (rw measures-are l))

@@ -1,5 +1,5 @@
 -- The edges of a portal in the cases that code meets, and that they are the graph's weights.
-use Prim.Native.Nat.{ℕ, _/_, _%_, _≤_, _<_}
+use Prim.Native.Nat.{ℕ, _≤_, _<_}
 use native.Mathlib.Omega.{arith}
 use mathlib.Core.Path.{_≡_, refl, sym, ap, _∙_}
 use mathlib.Core.Bool.{Bool, true, false, _&&_}
@@ -11,10 +11,10 @@ use Rattle.laws.specs.Fold.{pick}
 use Rattle.laws.specs.Table.{length-tabulate, table-at}
 use Rattle.model.specs.declared.Measures.{Measures}
 use Rattle.model.specs.declared.Side.{Side}
-use Rattle.model.specs.Sectors.{floorNumber, sectorOf, placeOf, costsOf, hasBeyond}
+use Rattle.model.specs.Sectors.{sectorCells, floorNumber, sectorOf, placeOf, costsOf, hasBeyond}
 use Rattle.model.specs.Moves.{moves, apart}
 use Rattle.model.specs.Halls.{Hall}
-use Rattle.model.specs.Portals.{sectorPortals, arcCount, portalSector, portalSide, portalPlace, placePortal, arcAt, isPortal, midpoint, movesFrom, facing, key, outerEdge, innerEdge, edgeAt, portalGraph}
+use Rattle.model.specs.Portals.{sectorPortals, arcCount, portalSector, portalSide, portalPlace, placePortal, arcTail, arcPlace, arcAt, isPortal, midpoint, movesFrom, facing, key, outerEdge, innerEdge, edgeAt, portalGraph}
 use Rattle.model.specs.PortalCrossings.{Fits, mid-low}
 use Rattle.model.specs.PortalEdges.{weight-at}
 use Rattle.model.specs.Store.{decode}
@@ -51,30 +51,30 @@ unfolding innerEdge midOf nearBy
 inner-by h fits from q = go (isPortal h q) refl
   where
     go : (t : Bool) → isPortal h q ≡ t → pick (ltb (nearBy from (midOf h q)) apart) (key (nearBy from (midOf h q))) 0 ≡ innerEdge h from q
-    go true e = rw (e, lt-ltb (midpoint h q) 100 (mid-low h fits q e))
+    go true e = rw (e, lt-ltb (midpoint h q) sectorCells (mid-low h fits q e))
     go false e = rw e refl
 
 -- what the midpoints of its sector say of number p
 module _ (h : Hall) (p : ℕ) {mids : List ℕ} (given : mids ≡ sectorMids h (portalSector p)) where
   pub mids-long : length mids ≡ sectorPortals
   unfolding sectorMids
-  mids-long = rw given (length-tabulate (λ k. midOf h (placePortal (portalSector p) k)) 20 0)
+  mids-long = rw given (length-tabulate (λ k. midOf h (placePortal (portalSector p) k)) sectorPortals 0)
 
   place-mid : (c : ℕ) → c < sectorPortals → getD mids c 0 ≡ midOf h (placePortal (portalSector p) c)
   unfolding sectorMids
-  place-mid c l = table-at (λ k. midOf h (placePortal (portalSector p) k)) 20 given c 0 l
+  place-mid c l = table-at (λ k. midOf h (placePortal (portalSector p) k)) sectorPortals given c 0 l
 
   own-mid : getD mids (portalPlace p) 0 ≡ midOf h p
   own-mid = let same : placePortal (portalSector p) (portalPlace p) ≡ p = omega arith in place-mid (portalPlace p) (omega arith) ∙ ap (λ (k : ℕ). midOf h k) same
 
-  pub own-none : Fits h → 100 ≤ getD mids (portalPlace p) 0 → isPortal h p ≡ false
+  pub own-none : Fits h → sectorCells ≤ getD mids (portalPlace p) 0 → isPortal h p ≡ false
   own-none fits l = go (isPortal h p) refl
     where
       go : (t : Bool) → isPortal h p ≡ t → isPortal h p ≡ false
       go true e = absurd (omega (arith, own-mid, mid-some h p e refl, mid-low h fits p e))
       go false e = e
 
-  pub own-some : getD mids (portalPlace p) 0 < 100 → (isPortal h p ≡ true) × (getD mids (portalPlace p) 0 ≡ midpoint h p)
+  pub own-some : getD mids (portalPlace p) 0 < sectorCells → (isPortal h p ≡ true) × (getD mids (portalPlace p) 0 ≡ midpoint h p)
   own-some l = go (isPortal h p) refl
     where
       go : (t : Bool) → isPortal h p ≡ t → (isPortal h p ≡ true) × (getD mids (portalPlace p) 0 ≡ midpoint h p)
@@ -82,19 +82,19 @@ module _ (h : Hall) (p : ℕ) {mids : List ℕ} (given : mids ≡ sectorMids h (
       go false e = absurd (omega (arith, own-mid, mid-none h p e))
 
 -- the moves from a cell that is its midpoint
-pub moves-own : (h : Hall) (p mid : ℕ) {x : ℕ} {from : List ℕ} → x ≡ floorNumber (portalSector p) mid → mid ≡ midpoint h p → mid < 100 → from ≡ moves (costsOf (h .scaled) (sectorOf x)) (placeOf x)
-    → from ≡ movesFrom h p
+pub moves-own : (h : Hall) (p mid : ℕ) {x : ℕ} {from : List ℕ} → x ≡ floorNumber (portalSector p) mid → mid ≡ midpoint h p → mid < sectorCells
+    → from ≡ moves (costsOf (h .scaled) (sectorOf x)) (placeOf x) → from ≡ movesFrom h p
 moves-own h p mid {x} a b l e =
-    let sector : x / 100 ≡ p / 20 = omega arith in
-    let place : x % 100 ≡ midpoint h p = omega arith in
+    let sector : sectorOf x ≡ portalSector p = omega arith in
+    let place : placeOf x ≡ midpoint h p = omega arith in
     e ∙ rw (sector, place) refl
 
 -- the graph's weight at place c of number p
 module _ (h : Hall) (p c : ℕ) (low : c < sectorPortals) (inside : arcAt p c < arcCount (h .measures)) where
   weight-is : portalGraph h .weight (arcAt p c) ≡ pick (isPortal h p) (edgeAt h p (movesFrom h p) c) 0
   weight-is =
-      let tail : (arcAt p c) / 20 ≡ p = omega arith in
-      let place : (arcAt p c) % 20 ≡ c = omega arith in
+      let tail : arcTail (arcAt p c) ≡ p = omega arith in
+      let place : arcPlace (arcAt p c) ≡ c = omega arith in
       let in-arcs : arcAt p c < portalGraph h .arcs = unfold portalGraph in inside in
       rw (tail, place) at (weight-at h (arcAt p c) in-arcs)
 

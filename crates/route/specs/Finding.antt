@@ -87,10 +87,11 @@ module _ (h : Hall) where
     pub pair-found : throughPortals h (portalGraph h) source goal ≡ pairRoute goal (placePortal (sectorOf source) (j / sectorPortals)) (placePortal (sectorOf goal) (j % sectorPortals))
         (legAt h source goal j) (lastAt h source goal j)
     unfolding throughPortals throughPair endOf runOf
-    pair-found = rw (c .wins, leg-moves h fits source (j / 20) (omega (arith, c .low)) (c .joined-by .near-start), last-moves h fits goal (j % 20) (omega arith) (c .joined-by .near-end))
+    pair-found =
+        rw (c .wins, leg-moves h fits source (j / sectorPortals) (omega (arith, c .low)) (c .joined-by .near-start), last-moves h fits goal (j % sectorPortals) (omega arith) (c .joined-by .near-end))
 
     pub pair-paired : sectorOf goal < sectors (h .measures) → Paired (placePortal (sectorOf source) (j / sectorPortals)) (placePortal (sectorOf goal) (j % sectorPortals))
-    pair-paired l = record { start = near-portal h fits source (j / 20) (omega (arith, c .low)) (c .joined-by .near-start); end = omega arith; linked = c .joined-by .linked }
+    pair-paired l = record { start = near-portal h fits source (j / sectorPortals) (omega (arith, c .low)) (c .joined-by .near-start); end = omega arith; linked = c .joined-by .linked }
 
   -- the portals that were written down
   module _ (fits : Fits h) {p e n : ℕ} (z : Paired p e) (keys nodes old : List ℕ) (is : keys ≡ keysTo (portalGraph h) e)

@@ -1,5 +1,5 @@
 -- The turn of a portal: what it is asked with, what it leaves, and the turn of one whose edges within its sector offer nothing, of which the arc to the facing portal is all.
-use Prim.Native.Nat.{ℕ, _+_, _*_, _/_, _%_, _≤_, _<_}
+use Prim.Native.Nat.{ℕ, _+_, _*_, _≤_, _<_}
 use native.Mathlib.Omega.{arith}
 use mathlib.Core.Path.{_≡_, ap, _∙_}
 use mathlib.Core.Logic.{_≢_}
@@ -10,7 +10,7 @@ use Rattle.laws.specs.Waiting.{awaited}
 use Rattle.laws.specs.Extending.{ArcsOf}
 use Rattle.laws.specs.Turns.{Served, served-alone}
 use Rattle.model.specs.declared.Measures.{Measures}
-use Rattle.model.specs.Portals.{sectorPortals, portalCount, portalSector, portalPlace, placePortal, arcAt, headOf}
+use Rattle.model.specs.Portals.{sectorPortals, portalCount, portalSector, portalPlace, placePortal, arcTail, arcPlace, arcAt, headOf}
 use Rattle.model.specs.PortalEdges.{head-other}
 use Rattle.graph.specs.EdgeTable.{bare, tableGraph}
 use Rattle.search.specs.Searching.{Searched}
@@ -38,14 +38,14 @@ Offerless table keys u n = (c : ℕ) → c < n → 0 < getD table (arcAt u c) 0 
 abbrev pub ownArc : ℕ → ℕ
 ownArc u = arcAt u (portalPlace u)
 
-module _ {m : Measures} {table : List ℕ} (d p : List ℕ) (u : ℕ) (given : Searched m table (length d) (length p)) (l : u < portalCount m) (none : Offerless table d u 20) where
+module _ {m : Measures} {table : List ℕ} (d p : List ℕ) (u : ℕ) (given : Searched m table (length d) (length p)) (l : u < portalCount m) (none : Offerless table d u sectorPortals) where
   -- another arc of u offers nothing
-  other : (e : ℕ) → 0 < getD table e 0 → e / 20 ≡ u → e ≢ ownArc u → getD d (tableGraph m table .head e) 0 ≤ getD d u 0 + getD table e 0
+  other : (e : ℕ) → 0 < getD table e 0 → arcTail e ≡ u → e ≢ ownArc u → getD d (tableGraph m table .head e) 0 ≤ getD d u 0 + getD table e 0
   other e q t n =
-      let c : ℕ = e % 20 in
-      let is : e ≡ u * 20 + c = omega arith in
-      let same : e / 20 / 20 * 20 + c ≡ u / 20 * 20 + c = omega (arith, ap (λ (x : ℕ). x / 20) t) in
-      let to : headOf (bare m) (e / 20) c ≡ u / 20 * 20 + c = head-other (bare m) (e / 20) c (λ z. n (omega (arith, is, z, ap (λ (x : ℕ). x % 20) t))) ∙ same in
+      let c : ℕ = arcPlace e in
+      let is : e ≡ arcAt u c = omega arith in
+      let same : placePortal (portalSector (arcTail e)) c ≡ placePortal (portalSector u) c = omega (arith, ap portalSector t) in
+      let to : headOf (bare m) (arcTail e) c ≡ placePortal (portalSector u) c = head-other (bare m) (arcTail e) c (λ z. n (omega (arith, is, z, ap portalPlace t))) ∙ same in
       omega (
         arith,
         none c (omega arith) (omega (arith, ap (λ (x : ℕ). getD table x 0) is)),

@@ -6,17 +6,18 @@ use lib.ListN.{length}
 use denote.Ref.{now}
 use Rattle.laws.specs.Graph.{Graph, Sound}
 use Rattle.laws.specs.Starts.{starts-more}
+use Rattle.model.specs.Portals.{sectorPortals}
 use Rattle.choice.specs.Ends.{endAt, endCost, EndsBegun}
 use Rattle.choice.proofs.ends.offer_ends.Statement.{statement}
 use Rattle.choice.proofs.ends.offer_ends.Tie as tie
 
 abbrev Inv-loop : tie.InvT-loop
 Inv-loop q lasts keys₀ wait₀ k₀ keys wait k =
-    (k ≤ 20) × (length keys ≡ length keys₀) × (length wait ≡ length wait₀)
+    (k ≤ sectorPortals) × (length keys ≡ length keys₀) × (length wait ≡ length wait₀)
     × ((g : Graph) → Sound g → length keys₀ ≡ g .nodes → EndsBegun g q lasts 0 keys₀ wait₀ → EndsBegun g q lasts k keys wait)
 
 abbrev μ-loop : tie.MeasureT-loop
-μ-loop q lasts keys₀ wait₀ k₀ keys wait k = 20 - k
+μ-loop q lasts keys₀ wait₀ k₀ keys wait k = sectorPortals - k
 
 abbrev S : tie.At-loop Inv-loop μ-loop → tie.Start Inv-loop μ-loop
 S at = at .before .before .before .before
@@ -56,7 +57,7 @@ loop-again c =
       omega (arith, in-loop .loop-test .taken),
       call .kept .1 .1 .0 ∙ inv .1,
       call .kept .1 .1 .1 .0 ∙ inv .2,
-      λ g sound numbers b. starts-more g 20 (endAt (S at .args .q)) (endCost (now (S at .args .lasts))) sound (λ j l. omega (arith, given .0)) (at .loop .keys) (at .loop .wait) (inv .1
+      λ g sound numbers b. starts-more g sectorPortals (endAt (S at .args .q)) (endCost (now (S at .args .lasts))) sound (λ j l. omega (arith, given .0)) (at .loop .keys) (at .loop .wait) (inv .1
           ∙ numbers) (inv .2 ∙ given .2 ∙ numbers) (at .loop .k) (in-loop .loop-test .taken) (call .ensures) (inv .3 g sound numbers b),
     )
 

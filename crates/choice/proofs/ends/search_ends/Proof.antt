@@ -2,13 +2,12 @@
 use native.Mathlib.Omega.{arith}
 use mathlib.Core.Path.{_≡_, _∙_}
 use mathlib.Core.List.{[], _∷_}
-use Prim.Native.Nat.{_*_}
 use lib.ListN.{length}
 use denote.Ref.{now}
 use borrow.Author.Needs.{needs}
-use Rattle.model.specs.Sectors.{sectors}
 use Rattle.model.specs.LeastPath.{unlinked}
 use Rattle.laws.specs.Starts.{starts-extends, starts-none, starts-all, starts-over}
+use Rattle.model.specs.Portals.{sectorPortals, portalCount}
 use Rattle.search.specs.Searching.{searched-in}
 use Rattle.graph.specs.EdgeTable.{tableGraph}
 use Rattle.choice.specs.Ends.{endAt, endCost, endsGraph, ends-nearest}
@@ -32,10 +31,10 @@ abbrev S : tie.After-fill-keys → tie.Start
 S c = c .before .before .before .before .before .before .before
 
 -- the lists stay as long as they were lent
-keys-long : (c : tie.After-offer-ends) → length (c .offer-ends .last .1 .1 .0) ≡ sectors (S (K (W c)) .args .m) * 20
+keys-long : (c : tie.After-offer-ends) → length (c .offer-ends .last .1 .1 .0) ≡ portalCount (S (K (W c)) .args .m)
 keys-long c = c .offer-ends .kept .1 .1 .0 ∙ K (W c) .fill-keys .kept .0 ∙ S (K (W c)) .pre .0 .0 .graph .numbers
 
-wait-long : (c : tie.After-offer-ends) → length (c .offer-ends .last .1 .1 .1 .0) ≡ sectors (S (K (W c)) .args .m) * 20
+wait-long : (c : tie.After-offer-ends) → length (c .offer-ends .last .1 .1 .1 .0) ≡ portalCount (S (K (W c)) .args .m)
 wait-long c = c .offer-ends .kept .1 .1 .1 .0 ∙ W c .fill-wait .kept .0 ∙ S (K (W c)) .pre .0 .1
 
 offer-ends-requires : tie.Need-offer-ends-requires
@@ -72,13 +71,14 @@ returns c =
     let keys = call .settle .last .1 .1 .0 in
     let to = endAt q in
     let cost = endCost lasts in
-    let begun = starts-none g 20 to cost sound (λ j l. omega (arith, given .2)) unlinked (omega arith) (given .0 .graph .numbers) (given .1) (k .fill-keys .ensures) (w .fill-wait .ensures) in
+    let begun = starts-none g sectorPortals to cost sound (λ j l. omega (arith, given .2)) unlinked (omega arith) (given .0 .graph .numbers) (given .1)
+    (k .fill-keys .ensures) (w .fill-wait .ensures) in
     let waiting =
-    starts-all g 20 to cost sound (λ j l. omega (arith, given .2)) (o .offer-ends .last .1 .1 .0) (o .offer-ends .last .1 .1 .1 .0)
+    starts-all g sectorPortals to cost sound (λ j l. omega (arith, given .2)) (o .offer-ends .last .1 .1 .0) (o .offer-ends .last .1 .1 .1 .0)
     (o .offer-ends .ensures g sound (k .fill-keys .kept .0 ∙ given .0 .graph .numbers) begun) in
-    let kept = call .settle .ensures .0 (endsGraph g q lasts) (0 ∷ []) (starts-extends g 20 to cost sound (λ j l. omega (arith, given .2))) (g .nodes) unlinked waiting in
+    let kept = call .settle .ensures .0 (endsGraph g q lasts) (0 ∷ []) (starts-extends g sectorPortals to cost sound (λ j l. omega (arith, given .2))) (g .nodes) unlinked waiting in
     let settled =
-    starts-over g 20 to cost sound (λ j l. omega (arith, given .2)) keys (call .settle .last .1 .1 .1 .0)
+    starts-over g sectorPortals to cost sound (λ j l. omega (arith, given .2)) keys (call .settle .last .1 .1 .1 .0)
     (call .settle .kept .1 .1 .1 .0 ∙ wait-long o) kept (λ v l. call .settle .ensures .1 v (omega (arith, keys-long o))) in
     ends-nearest q lasts keys sound (start .pre .1) (omega (arith, given .0 .few)) (given .0 .graph .light) (given .2) (call .settle .kept .1 .1 .0 ∙ keys-long o) settled
 

@@ -1,12 +1,12 @@
 -- `choose_pair` takes the first start, then the first end from it.
 use native.Mathlib.Omega.{arith}
 use mathlib.Core.Path.{_≡_, _∙_}
-use Prim.Native.Nat.{ℕ, _*_, _<_}
+use Prim.Native.Nat.{ℕ, _<_}
 use lib.ListN.{length, getD, replicate, getD-replicate}
 use denote.Ref.{now}
 use borrow.Author.Needs.{needs}
 use Rattle.laws.specs.FirstLeast.{foremost-within}
-use Rattle.model.specs.Sectors.{sectors}
+use Rattle.model.specs.Portals.{sectorPortals, portalCount}
 use Rattle.search.specs.Searching.{searched-in}
 use Rattle.choice.specs.FirstPair.{no-start, first-pair}
 use Rattle.choice.proofs.pair.choose_pair.Statement.{statement}
@@ -26,10 +26,10 @@ T c = c .before .before .before .before .before
 abbrev E : tie.After-keys-to → tie.Else1
 E c = c .before .before
 
-zero-at : (c : ℕ) → c < 20 → getD {A = ℕ} (replicate 20 0) c 0 ≡ 0
-zero-at c l = getD-replicate {A = ℕ} 20 c 0 0 l
+zero-at : (c : ℕ) → c < sectorPortals → getD {A = ℕ} (replicate sectorPortals 0) c 0 ≡ 0
+zero-at c l = getD-replicate {A = ℕ} sectorPortals c 0 0 l
 
-keys-long : (c : tie.After-keys-to-goal) → length (c .keys-to-goal .last .1 .1 .1 .1 .0) ≡ sectors (S c .args .m) * 20
+keys-long : (c : tie.After-keys-to-goal) → length (c .keys-to-goal .last .1 .1 .1 .1 .0) ≡ portalCount (S c .args .m)
 keys-long c = c .keys-to-goal .kept .1 .1 .1 .1 .0 ∙ S c .pre .0 .0 .graph .numbers
 
 returns : tie.Need-returns
@@ -37,7 +37,7 @@ returns c =
     let g = G (c .before) in
     let s = S g in
     let given = s .pre .0 in
-    no-start (given .0 .graph .sound) (s .pre .1) (s .args .p) (s .args .q) (given .1) (given .2) (now (s .args .legs)) (now (s .args .lasts)) (replicate 20 0) zero-at
+    no-start (given .0 .graph .sound) (s .pre .1) (s .args .p) (s .args .q) (given .1) (given .2) (now (s .args .legs)) (now (s .args .lasts)) (replicate sectorPortals 0) zero-at
     (g .keys-to-goal .last .1 .1 .1 .1 .0) (g .keys-to-goal .ensures) (c .before .first-place .ensures) (c .if1 .taken)
 
 keys-to-requires : tie.Need-keys-to-requires
@@ -55,7 +55,7 @@ returns-2 c =
     let g = G (e .before) in
     let s = S g in
     let given = s .pre .0 in
-    first-pair (given .0 .graph .sound) (s .pre .1) (s .args .p) (s .args .q) (given .1) (given .2) (now (s .args .legs)) (now (s .args .lasts)) (replicate 20 0) zero-at
+    first-pair (given .0 .graph .sound) (s .pre .1) (s .args .p) (s .args .q) (given .1) (given .2) (now (s .args .legs)) (now (s .args .lasts)) (replicate sectorPortals 0) zero-at
     (g .keys-to-goal .last .1 .1 .1 .1 .0) (g .keys-to-goal .ensures) (e .before .first-place .ensures) (omega (arith, e .if1 .left)) (T c .keys-to .last .1 .1 .1 .0) (T c .keys-to .ensures)
     (c .first-place2 .ensures)
 

@@ -7,15 +7,16 @@ use denote.Ref.{now}
 use borrow.Author.Needs.{needs}
 use Rattle.laws.specs.FirstLeast.{Picked, picked-none, picked-take, picked-skip}
 use Rattle.model.specs.LeastPath.{unlinked}
+use Rattle.model.specs.Portals.{sectorPortals}
 use Rattle.choice.specs.FirstPair.{placeRun}
 use Rattle.choice.proofs.pair.first_place.Statement.{statement}
 use Rattle.choice.proofs.pair.first_place.Tie as tie
 
 abbrev Inv-loop : tie.InvT-loop
-Inv-loop keys p legs lasts best₀ least₀ c₀ best least c = (c ≤ 20) × Picked (placeRun keys p legs lasts) unlinked 20 c least best
+Inv-loop keys p legs lasts best₀ least₀ c₀ best least c = (c ≤ sectorPortals) × Picked (placeRun keys p legs lasts) unlinked sectorPortals c least best
 
 abbrev μ-loop : tie.MeasureT-loop
-μ-loop keys p legs lasts best₀ least₀ c₀ best least c = 20 - c
+μ-loop keys p legs lasts best₀ least₀ c₀ best least c = sectorPortals - c
 
 abbrev S : tie.At-loop Inv-loop μ-loop → tie.Start Inv-loop μ-loop
 S at = at .before .before .before .before
@@ -64,7 +65,7 @@ returns c =
     let at = c .before in
     let args = S at .args in
     let key = placeRun (now (args .keys)) (args .p) (now (args .legs)) (now (args .lasts)) in
-    (at .loop .least, subst (λ (n : ℕ). Picked key unlinked 20 n (at .loop .least) (at .loop .best)) (omega (arith, at .loop .inv .0, c .loop-test .left)) (at .loop .inv .1))
+    (at .loop .least, subst (λ (n : ℕ). Picked key unlinked sectorPortals n (at .loop .least) (at .loop .best)) (omega (arith, at .loop .inv .0, c .loop-test .left)) (at .loop .inv .1))
 
 pub first-place-spec : {M : Type 1} → statement M
 first-place-spec =

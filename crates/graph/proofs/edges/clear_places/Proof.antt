@@ -2,6 +2,7 @@
 use native.Mathlib.Omega.{arith}
 use mathlib.Core.Path.{refl}
 use Prim.Native.Nat.{_-_}
+use Rattle.model.specs.Portals.{sectorPortals}
 use Rattle.graph.specs.EdgeTable.{Row, row-none, row-more, row-all}
 use Rattle.graph.proofs.edges.clear_places.Statement.{statement}
 use Rattle.graph.proofs.edges.clear_places.Tie as tie
@@ -10,7 +11,7 @@ abbrev Inv-loop : tie.InvT-loop
 Inv-loop p table₀ c₀ table c = Row (λ k. 0) p c table₀ table
 
 abbrev μ-loop : tie.MeasureT-loop
-μ-loop p table₀ c₀ table c = 20 - c
+μ-loop p table₀ c₀ table c = sectorPortals - c
 
 loop-holds : tie.Need-loop-holds Inv-loop μ-loop
 loop-holds c = row-none _ _ _

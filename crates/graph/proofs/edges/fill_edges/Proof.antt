@@ -7,13 +7,14 @@ use borrow.Author.Needs.{needs}
 use Rattle.laws.specs.Table.{tabled-none, tabled-at}
 use Rattle.model.specs.Sectors.{sectors}
 use Rattle.model.specs.Store.{decode}
+use Rattle.model.specs.Portals.{sectorArcs}
 use Rattle.graph.specs.EdgeTable.{Filled, filled-all}
 use Rattle.graph.specs.Reading.{accepted-of, measures-are}
 use Rattle.graph.proofs.edges.fill_edges.Statement.{statement}
 use Rattle.graph.proofs.edges.fill_edges.Tie as tie
 
 abbrev Inv-loop : tie.InvT-loop
-Inv-loop st m table₀ n s₀ table s = (s ≤ n) × Filled (decode st) (s * 400) table
+Inv-loop st m table₀ n s₀ table s = (s ≤ n) × Filled (decode st) (s * sectorArcs) table
 
 abbrev μ-loop : tie.MeasureT-loop
 μ-loop st m table₀ n s₀ table s = n - s
@@ -28,7 +29,7 @@ sectors-requires : tie.Need-sectors-requires Inv-loop μ-loop
 sectors-requires c κs = search needs
 
 loop-holds : tie.Need-loop-holds Inv-loop μ-loop
-loop-holds c = (omega arith, tabled-none _ _ _ (S c .pre .1 ∙ ap (λ (k : ℕ). k * 400) (sym (are c))))
+loop-holds c = (omega arith, tabled-none _ _ _ (S c .pre .1 ∙ ap (λ (k : ℕ). k * sectorArcs) (sym (are c))))
 
 fill-sector-requires : tie.Need-fill-sector-requires Inv-loop μ-loop
 fill-sector-requires c κs =
@@ -49,7 +50,7 @@ loop-again c =
     (omega (arith, call .before .before .loop-test .taken), tabled-at (call .fill-sector .ensures) (omega arith))
 
 same-length : tie.Need-same-length Inv-loop μ-loop
-same-length c = c .before .loop .inv .1 .long ∙ ap (λ (k : ℕ). k * 400) (are (c .before .before)) ∙ sym (S (c .before .before) .pre .1)
+same-length c = c .before .loop .inv .1 .long ∙ ap (λ (k : ℕ). k * sectorArcs) (are (c .before .before)) ∙ sym (S (c .before .before) .pre .1)
 
 returns : tie.Need-returns Inv-loop μ-loop
 returns c = filled-all (decode (now (S (c .before .before) .args .st))) (c .before .loop .inv .1) (omega (arith, c .loop-test .left, are (c .before .before), c .before .before .sectors .ensures))

@@ -1,7 +1,8 @@
 -- `fill_places` takes the edge at each place of one portal.
 use native.Mathlib.Omega.{arith}
-use Prim.Native.Nat.{_-_, _%_}
+use Prim.Native.Nat.{_-_}
 use lib.ListN.{getD}
+use Rattle.model.specs.Portals.{sectorPortals, portalPlace}
 use Rattle.moves.specs.Levels.{movesIn}
 use Rattle.graph.specs.EdgeTable.{Row, row-none, row-more, row-all}
 use Rattle.graph.specs.Weights.{edgeBy}
@@ -12,10 +13,10 @@ use Rattle.graph.proofs.edges.fill_places.Tie as tie
 -- `fill_places` takes the edge at each place of one portal.
 
 abbrev Inv-loop : tie.InvT-loop
-Inv-loop p levels n mids outer table₀ c₀ table c = Row (λ k. edgeBy (movesIn levels n) (getD mids k 0) outer (p % 20) k) p c table₀ table
+Inv-loop p levels n mids outer table₀ c₀ table c = Row (λ k. edgeBy (movesIn levels n) (getD mids k 0) outer (portalPlace p) k) p c table₀ table
 
 abbrev μ-loop : tie.MeasureT-loop
-μ-loop p levels n mids outer table₀ c₀ table c = 20 - c
+μ-loop p levels n mids outer table₀ c₀ table c = sectorPortals - c
 
 -- the loop, seen from the call of `edge_at`, and the function's entry
 abbrev L : tie.After-edge-at Inv-loop μ-loop → tie.At-loop Inv-loop μ-loop

@@ -7,6 +7,7 @@ use denote.Ref.{now}
 use Rattle.laws.specs.Table.{tabled-at}
 use Rattle.model.specs.Sectors.{costsOf}
 use Rattle.model.specs.Store.{decode}
+use Rattle.model.specs.Portals.{sectorPortals, sectorArcs}
 use Rattle.moves.specs.Levels.{openWords}
 use Rattle.graph.specs.EdgeTable.{Filled}
 use Rattle.graph.specs.Near.{sectorMids}
@@ -16,10 +17,10 @@ use Rattle.graph.proofs.edges.fill_sector.Statement.{statement}
 use Rattle.graph.proofs.edges.fill_sector.Tie as tie
 
 abbrev Inv-loop : tie.InvT-loop
-Inv-loop st m s table₀ mids words levels₀ c₀ table levels c = (c ≤ 20) × Filled (decode st) (s * 400 + c * 20) table × (length levels ≡ 202)
+Inv-loop st m s table₀ mids words levels₀ c₀ table levels c = (c ≤ sectorPortals) × Filled (decode st) (s * sectorArcs + c * sectorPortals) table × (length levels ≡ 202)
 
 abbrev μ-loop : tie.MeasureT-loop
-μ-loop st m s table₀ mids words levels₀ c₀ table levels c = 20 - c
+μ-loop st m s table₀ mids words levels₀ c₀ table levels c = sectorPortals - c
 
 abbrev S : tie.After-words2 Inv-loop μ-loop → tie.Start Inv-loop μ-loop
 S c = c .before .before .before .before .before .before .before .before

@@ -4,6 +4,7 @@ use native.Mathlib.Omega.{arith}
 use mathlib.Core.Path.{refl}
 use lib.ListN.{getD}
 use Rattle.laws.specs.Table.{Tabled, tabling}
+use Rattle.model.specs.Portals.{sectorPortals}
 use Rattle.moves.specs.Levels.{movesIn}
 use Rattle.graph.specs.Reading.{accepted-of}
 use Rattle.graph.specs.Near.{nearBy, near-list}
@@ -12,10 +13,10 @@ use Rattle.graph.proofs.near.portal_moves.Statement.{statement}
 use Rattle.graph.proofs.near.portal_moves.Tie as tie
 
 abbrev Inv-loop : tie.InvT-loop
-Inv-loop st x near₀ levels mids n c₀ near c = Tabled (λ k. nearBy (movesIn levels n) (getD mids k 0)) 20 c near
+Inv-loop st x near₀ levels mids n c₀ near c = Tabled (λ k. nearBy (movesIn levels n) (getD mids k 0)) sectorPortals c near
 
 abbrev μ-loop : tie.MeasureT-loop
-μ-loop st x near₀ levels mids n c₀ near c = 20 - c
+μ-loop st x near₀ levels mids n c₀ near c = sectorPortals - c
 
 slice-aggregate-sector-words : tie.Need-slice-aggregate-sector-words Inv-loop μ-loop
 slice-aggregate-sector-words c = search needs

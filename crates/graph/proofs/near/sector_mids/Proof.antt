@@ -3,15 +3,16 @@ use Prim.Native.Nat.{_+_, _-_, _*_}
 use borrow.Author.Needs.{needs}
 use Rattle.laws.specs.Table.{Tabled, tabling}
 use Rattle.model.specs.Store.{decode}
+use Rattle.model.specs.Portals.{sectorPortals}
 use Rattle.graph.specs.Near.{midOf, sectorMids}
 use Rattle.graph.proofs.near.sector_mids.Statement.{statement}
 use Rattle.graph.proofs.near.sector_mids.Tie as tie
 
 abbrev Inv-loop : tie.InvT-loop
-Inv-loop st m s mids₀ c₀ mids c = Tabled (λ k. midOf (decode st) (s * 20 + k)) 20 c mids
+Inv-loop st m s mids₀ c₀ mids c = Tabled (λ k. midOf (decode st) (s * sectorPortals + k)) sectorPortals c mids
 
 abbrev μ-loop : tie.MeasureT-loop
-μ-loop st m s mids₀ c₀ mids c = 20 - c
+μ-loop st m s mids₀ c₀ mids c = sectorPortals - c
 
 loop-holds : tie.Need-loop-holds Inv-loop μ-loop
 loop-holds c = search (needs, tabling)

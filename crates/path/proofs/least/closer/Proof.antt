@@ -3,11 +3,10 @@ use native.Mathlib.Omega.{arith}
 use mathlib.Core.Path.{_≡_}
 use mathlib.Core.Logic.{inr}
 use mathlib.Core.Bool.{true}
-use Prim.Native.Nat.{_*_, _<_}
+use Prim.Native.Nat.{_<_}
 use lib.ListN.{getD}
 use denote.Ref.{now}
-use Rattle.model.specs.Sectors.{sectors}
-use Rattle.model.specs.Portals.{isPortal}
+use Rattle.model.specs.Portals.{portalCount, isPortal}
 use Rattle.model.specs.LeastPath.{nodeRank}
 use Rattle.model.specs.Store.{decode}
 use Rattle.search.specs.Searching.{arrives}
@@ -22,7 +21,7 @@ S n = n .before .before .before .before .before .before .before .before
 pos : (n : tie.After-head-of) → 0 < getD (now (S n .args .table)) (S n .args .a) 0
 pos n = omega (arith, n .before .before .before .if1 .left)
 
-in-v : (n : tie.After-head-of) → n .head-of .result < sectors (S n .args .m) * 20
+in-v : (n : tie.After-head-of) → n .head-of .result < portalCount (S n .args .m)
 in-v n =
     arrives (S n .args .m) (now (S n .args .table)) (now (S n .args .keys)) (now (S n .args .keys)) (S n .args .a) (S n .args .u) (S n .pre .2) (n .head-of .result) (n .head-of .ensures)
     (searched-of (S n .pre .0) .graph .sound) (S n .pre .1) (pos n)

@@ -1,9 +1,10 @@
 -- `least_path` writes the least path. The loop's invariant is `Walked`.
 use native.Mathlib.Omega.{arith}
-use Prim.Native.Nat.{_-_, _*_, _≤_, _<_}
+use Prim.Native.Nat.{_-_, _≤_, _<_}
 use lib.ListN.{length, length-set}
 use denote.Ref.{now}
 use Rattle.model.specs.Sectors.{sectors}
+use Rattle.model.specs.Portals.{portalCount}
 use Rattle.path.specs.Following.{Walked, searched-of, walk-begins, walk-at, walk-room, walk-long, walk-on, walk-ends}
 use Rattle.path.proofs.least.least_path.Statement.{statement}
 use Rattle.path.proofs.least.least_path.Tie as tie
@@ -12,7 +13,7 @@ abbrev Inv-loop : tie.InvT-loop
 Inv-loop st m table keys p nodes₀ u₀ i₀ nodes u i = Walked m st table keys p nodes₀ nodes u i
 
 abbrev μ-loop : tie.MeasureT-loop
-μ-loop st m table keys p nodes₀ u₀ i₀ nodes u i = sectors m * 20 - i
+μ-loop st m table keys p nodes₀ u₀ i₀ nodes u i = portalCount m - i
 
 abbrev S : tie.After-slice-known Inv-loop μ-loop → tie.Start Inv-loop μ-loop
 S c = c .before .before .before .before
@@ -20,10 +21,10 @@ S c = c .before .before .before .before
 few : (c : tie.At-loop Inv-loop μ-loop) → sectors (S (c .before) .args .m) ≤ 100
 few c = searched-of (S (c .before) .pre .0 .0) .few
 
-at : (c : tie.At-loop Inv-loop μ-loop) → c .loop .u < sectors (S (c .before) .args .m) * 20
+at : (c : tie.At-loop Inv-loop μ-loop) → c .loop .u < portalCount (S (c .before) .args .m)
 at c = walk-at (S (c .before) .pre .0 .0) (c .loop .inv)
 
-room : (c : tie.At-loop Inv-loop μ-loop) → (c .loop .i < length (c .loop .nodes)) × (c .loop .i < sectors (S (c .before) .args .m) * 20)
+room : (c : tie.At-loop Inv-loop μ-loop) → (c .loop .i < length (c .loop .nodes)) × (c .loop .i < portalCount (S (c .before) .args .m))
 room c = walk-room (S (c .before) .pre .0 .0) (c .loop .inv)
 
 loop-holds : tie.Need-loop-holds Inv-loop μ-loop

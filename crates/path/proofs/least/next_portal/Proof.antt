@@ -9,16 +9,17 @@ use Rattle.laws.specs.FirstPath.{next}
 use Rattle.laws.specs.Tracing.{next-suc}
 use Rattle.model.specs.LeastPath.{nodeRank}
 use Rattle.model.specs.Store.{decode}
+use Rattle.model.specs.Portals.{sectorPortals}
 use Rattle.graph.specs.EdgeTable.{tableGraph}
 use Rattle.path.specs.Following.{Best, searched-of, next-begins, next-ends}
 use Rattle.path.proofs.least.next_portal.Statement.{statement}
 use Rattle.path.proofs.least.next_portal.Tie as tie
 
 abbrev Inv-loop : tie.InvT-loop
-Inv-loop st m table keys u best₀ a₀ end best a = (u * 20 ≤ a) × (a ≤ u * 20 + 20) × (best ≡ next (tableGraph m table) (nodeRank (decode st)) keys u a) × Best m st best
+Inv-loop st m table keys u best₀ a₀ end best a = (u * sectorPortals ≤ a) × (a ≤ u * sectorPortals + sectorPortals) × (best ≡ next (tableGraph m table) (nodeRank (decode st)) keys u a) × Best m st best
 
 abbrev μ-loop : tie.MeasureT-loop
-μ-loop st m table keys u best₀ a₀ end best a = u * 20 + 20 - a
+μ-loop st m table keys u best₀ a₀ end best a = u * sectorPortals + sectorPortals - a
 
 abbrev S : tie.After-sectors Inv-loop μ-loop → tie.Start Inv-loop μ-loop
 S c = c .before .before .before .before
@@ -41,7 +42,7 @@ add-end c = omega (arith, few c, S c .pre .1, c .sectors .ensures)
 loop-holds : tie.Need-loop-holds Inv-loop μ-loop
 loop-holds c =
     let start = S c in
-    let all = ap (λ (n : ℕ). n * 20) (c .sectors .ensures) in
+    let all = ap (λ (n : ℕ). n * sectorPortals) (c .sectors .ensures) in
     (omega arith, omega arith, all ∙ next-begins (start .args .m) (now (start .args .table)) (nodeRank (decode (now (start .args .st)))) (now (start .args .keys)) (start .args .u), inl all)
 
 closer-requires : tie.Need-closer-requires Inv-loop μ-loop

@@ -1,6 +1,6 @@
 -- `through_lists` chooses a pair and takes the route over it.
 use native.Mathlib.Omega.{arith}
-use Prim.Native.Nat.{ℕ, _+_, _*_, _/_, _%_, _<_}
+use Prim.Native.Nat.{ℕ, _*_, _/_, _%_, _<_}
 use mathlib.Core.Path.{_≡_, sym, ap, subst, _∙_}
 use mathlib.Core.List.{List}
 use lib.ListN.{length, getD}
@@ -8,7 +8,7 @@ use denote.Ref.{now}
 use Rattle.laws.specs.Graph.{Graph}
 use Rattle.laws.specs.FirstLeast.{Foremost}
 use Rattle.model.specs.Sectors.{sectors, sectorOf}
-use Rattle.model.specs.Portals.{portalGraph}
+use Rattle.model.specs.Portals.{sectorPortals, placePortal, portalGraph}
 use Rattle.model.specs.Halls.{Hall}
 use Rattle.model.specs.LeastPath.{unlinked}
 use Rattle.model.specs.Route.{Found, throughPortals}
@@ -16,7 +16,7 @@ use Rattle.model.specs.Store.{decode}
 use Rattle.graph.specs.Reading.{fits-of, measures-are}
 use Rattle.path.specs.Following.{Linked, graph-is, searched-of, searched-both-ways}
 use Rattle.graph.specs.Near.{portalMoves}
-use Rattle.choice.specs.Choosing.{pairRun, runAt, Chosen, chosen-none, chosen-some}
+use Rattle.choice.specs.Choosing.{sectorPairs, pairRun, runAt, Chosen, chosen-none, chosen-some}
 use Rattle.route.specs.Finding.{foundAnswer, foundInto, pair-found, pair-paired, pairRoute, none-found}
 use borrow.Author.Needs.{needs}
 use Rattle.route.proofs.find.through_lists.Statement.{statement}
@@ -50,24 +50,25 @@ legs-are c = B c .before .before .before .before .before .before .portal-moves .
 lasts-are : (c : tie.After-choose-pair) → B c .before .before .before .portal-moves2 .last .1 .1 .1 .0 ≡ portalMoves (hall (S (B c))) (S (B c) .args .goal)
 lasts-are c = B c .before .before .before .portal-moves2 .ensures
 
-foremost : (c : tie.After-choose-pair) → Foremost (runAt (hall (S (B c))) (S (B c) .args .source) (S (B c) .args .goal)) unlinked 400 (c .choose-pair .result)
+foremost : (c : tie.After-choose-pair) → Foremost (runAt (hall (S (B c))) (S (B c) .args .source) (S (B c) .args .goal)) unlinked sectorPairs (c .choose-pair .result)
 foremost c =
-    subst (λ (runs : ℕ → ℕ). Foremost runs unlinked 400 (c .choose-pair .result))
-    (same-runs (sectorOf (S (B c) .args .source) * 20) (sectorOf (S (B c) .args .goal) * 20) (graph-is (linked (B c))) (legs-are c) (lasts-are c)) (c .choose-pair .ensures)
+    subst (λ (runs : ℕ → ℕ). Foremost runs unlinked sectorPairs (c .choose-pair .result))
+    (same-runs (sectorOf (S (B c) .args .source) * sectorPortals) (sectorOf (S (B c) .args .goal) * sectorPortals) (graph-is (linked (B c))) (legs-are c) (lasts-are c)) (c .choose-pair .ensures)
 
-chosen : (c : tie.After-choose-pair) → c .choose-pair .result < 400 → Chosen (hall (S (B c))) (S (B c) .args .source) (S (B c) .args .goal) (c .choose-pair .result)
+chosen : (c : tie.After-choose-pair) → c .choose-pair .result < sectorPairs → Chosen (hall (S (B c))) (S (B c) .args .source) (S (B c) .args .goal) (c .choose-pair .result)
 chosen c l = chosen-some (hall (S (B c))) (S (B c) .args .source) (S (B c) .args .goal) (fits-of (S (B c) .pre .0)) (foremost c) l
 
 -- the route over it, with leg and last moves as they were read
-found-is : (c : tie.After-choose-pair) → c .choose-pair .result < 400 → let s = S (B c) in let k = c .choose-pair .result in
+found-is : (c : tie.After-choose-pair) → c .choose-pair .result < sectorPairs → let s = S (B c) in let k = c .choose-pair .result in
     throughPortals (hall s) (portalGraph (hall s)) (s .args .source) (s .args .goal)
-    ≡ pairRoute (hall s) (s .args .goal) (sectorOf (s .args .source) * 20 + k / 20) (sectorOf (s .args .goal) * 20 + k % 20)
-    (getD (B c .before .before .before .before .before .before .portal-moves .last .1 .1 .1 .0) (k / 20) 0) (getD (B c .before .before .before .portal-moves2 .last .1 .1 .1 .0) (k % 20) 0)
+    ≡ pairRoute (hall s) (s .args .goal) (placePortal (sectorOf (s .args .source)) (k / sectorPortals)) (placePortal (sectorOf (s .args .goal)) (k % sectorPortals))
+    (getD (B c .before .before .before .before .before .before .portal-moves .last .1 .1 .1 .0) (k / sectorPortals) 0)
+    (getD (B c .before .before .before .portal-moves2 .last .1 .1 .1 .0) (k % sectorPortals) 0)
 found-is c l =
     let s = S (B c) in
     let k = c .choose-pair .result in
     pair-found (hall s) (fits-of (s .pre .0)) (s .args .source) (s .args .goal) (chosen c l)
-    ∙ same-route (hall s) (s .args .goal) (sectorOf (s .args .source) * 20 + k / 20) (sectorOf (s .args .goal) * 20 + k % 20) (k / 20) (k % 20) (sym (legs-are c)) (sym (lasts-are c))
+    ∙ same-route (hall s) (s .args .goal) _ _ (k / sectorPortals) (k % sectorPortals) (sym (legs-are c)) (sym (lasts-are c))
 
 choose-pair-requires : tie.Need-choose-pair-requires
 choose-pair-requires c κs =

@@ -1,13 +1,13 @@
 -- `through_pair` searches to the end portal, follows the least path and writes its steps.
 use native.Mathlib.Omega.{arith}
-use Prim.Native.Nat.{ℕ, _*_, _<_, _≤_}
+use Prim.Native.Nat.{ℕ, _<_, _≤_}
 use mathlib.Core.Path.{_≡_, ap, _∙_}
 use mathlib.Core.List.{List}
 use lib.ListN.{length, getD}
 use denote.Ref.{now}
 use Rattle.laws.specs.Graph.{Graph}
 use Rattle.model.specs.Sectors.{sectors}
-use Rattle.model.specs.Portals.{hallPortals, portalGraph}
+use Rattle.model.specs.Portals.{hallPortals, portalCount, portalGraph}
 use Rattle.model.specs.LeastPath.{unlinked, keysTo}
 use Rattle.model.specs.PortalCrossings.{Fits}
 use Rattle.model.specs.Store.{decode}
@@ -28,7 +28,7 @@ K c = c .before .before .before .before .before
 same-sectors : (s : tie.Start) → sectors (decode (now (s .args .st)) .measures) ≡ sectors (s .args .m)
 same-sectors s = ap sectors (measures-are (s .pre .0 .opened))
 
-start-low : (s : tie.Start) → s .args .p < sectors (s .args .m) * 20
+start-low : (s : tie.Start) → s .args .p < portalCount (s .args .m)
 start-low s = omega (arith, portal-is _ _ (s .pre .1 .start) .inside, same-sectors s)
 
 fits : (s : tie.Start) → Fits (decode (now (s .args .st)))

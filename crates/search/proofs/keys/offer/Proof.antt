@@ -1,10 +1,10 @@
 -- `offer` takes one arc: at each early return it offers nothing, and at the end its offer is taken.
 use native.Mathlib.Omega.{arith}
-use Prim.Native.Nat.{_+_, _*_, _<_}
+use Prim.Native.Nat.{_+_, _<_}
 use lib.ListN.{getD}
 use denote.Ref.{now}
 use borrow.Author.Needs.{needs}
-use Rattle.model.specs.Sectors.{sectors}
+use Rattle.model.specs.Portals.{portalCount}
 use Rattle.search.specs.Searching.{skips, arrives, declines, accepts}
 use Rattle.search.proofs.keys.offer.Statement.{statement}
 use Rattle.search.proofs.keys.offer.Tie as tie
@@ -19,7 +19,7 @@ N c = c .before .before .before .before .before
 pos : (n : tie.After-head-of) → 0 < getD (now (S n .args .table)) (S n .args .a) 0
 pos n = omega (arith, n .before .if1 .left)
 
-in-v : (n : tie.After-head-of) → n .head-of .result < sectors (S n .args .m) * 20
+in-v : (n : tie.After-head-of) → n .head-of .result < portalCount (S n .args .m)
 in-v n =
     arrives (S n .args .m) (now (S n .args .table)) (now (S n .args .keys)) (now (S n .args .wait)) (S n .args .a) (S n .args .u) (S n .pre .2) (n .head-of .result) (n .head-of .ensures)
     (S n .pre .0 .graph .sound) (S n .pre .1) (pos n)

@@ -1,19 +1,20 @@
 -- `offers_inside` counts the places that offer something. The loop's invariant: where none of those before c was counted, none offers anything.
 use native.Mathlib.Omega.{arith}
 use mathlib.Core.Path.{_≡_, subst}
-use Prim.Native.Nat.{ℕ, _+_, _-_, _*_, _/_, _≤_, _<_}
+use Prim.Native.Nat.{ℕ, _+_, _-_, _≤_, _<_}
 use lib.ListN.{getD}
 use borrow.Author.Count.{below-more}
 use borrow.Author.Tests.{ltb-false}
+use Rattle.model.specs.Portals.{sectorPortals, portalSector, placePortal, arcAt}
 use Rattle.search.specs.Turns.{Offerless}
 use Rattle.search.proofs.keys.offers_inside.Statement.{statement}
 use Rattle.search.proofs.keys.offers_inside.Tie as tie
 
 abbrev Inv-loop : tie.InvT-loop
-Inv-loop table u keys key first n₀ c₀ n c = (c ≤ 20) × (n ≤ c) × (n ≡ 0 → Offerless table keys u c)
+Inv-loop table u keys key first n₀ c₀ n c = (c ≤ sectorPortals) × (n ≤ c) × (n ≡ 0 → Offerless table keys u c)
 
 abbrev μ-loop : tie.MeasureT-loop
-μ-loop table u keys key first n₀ c₀ n c = 20 - c
+μ-loop table u keys key first n₀ c₀ n c = sectorPortals - c
 
 abbrev S : tie.After-shared-slice-known3 Inv-loop μ-loop → tie.Start Inv-loop μ-loop
 S c = c .before .before .before
@@ -72,7 +73,7 @@ loop-again c =
     let u = start .args .u in (
       omega (arith, c .before .before .before .loop-test .taken),
       omega (arith, at .loop .inv .1, c .gain .ensures .0),
-      λ z. below-more (λ (i : ℕ). 0 < getD table (u * 20 + i) 0 → getD keys (u / 20 * 20 + i) 0 ≤ getD keys u 0 + getD table (u * 20 + i) 0) (at .loop .c) (at .loop .inv .2 (omega arith))
+      λ z. below-more (λ (i : ℕ). 0 < getD table (arcAt u i) 0 → getD keys (placePortal (portalSector u) i) 0 ≤ getD keys u 0 + getD table (arcAt u i) 0) (at .loop .c) (at .loop .inv .2 (omega arith))
           (c .gain .ensures .1 (omega arith)),
     )
 

@@ -1,14 +1,14 @@
 -- `serve` gives one number its turn, if it waits.
 use native.Mathlib.Omega.{arith}
 use native.Mathlib.Nat.{lt-of-le-of-lt}
-use Prim.Native.Nat.{_*_, _<_}
+use Prim.Native.Nat.{_<_}
 use mathlib.Core.Path.{_∙_}
 use borrow.Author.Needs.{needs}
 use lib.ListN.{length-set}
 use denote.Ref.{now}
 use Rattle.laws.specs.Waiting.{work-served}
-use Rattle.model.specs.Sectors.{sectors}
 use Rattle.laws.specs.Extending.{turn-begins}
+use Rattle.model.specs.Portals.{portalCount}
 use Rattle.search.specs.Turns.{arcs-of}
 use Rattle.laws.specs.Turns.{turned-none, turned-less}
 use Rattle.search.proofs.keys.serve.Statement.{statement}
@@ -24,7 +24,7 @@ Call c = c .before .before .before .before .before .before
 abbrev Asked : tie.After-slice-known7 → tie.Else2
 Asked c = Call c .before .before .before .before
 
-low : (c : tie.Else2) → S c .args .u < sectors (S c .args .m) * 20
+low : (c : tie.Else2) → S c .args .u < portalCount (S c .args .m)
 low c = omega (arith, c .before .before .if1 .left, S c .pre .0 .graph .numbers)
 
 returns : tie.Need-returns

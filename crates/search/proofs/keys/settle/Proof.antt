@@ -1,10 +1,9 @@
 -- `settle` ends where the queue of those that wait is empty. The loop's invariant: what waited is kept, and the queue is that of those that wait.
 use native.Mathlib.Omega.{arith}
 use mathlib.Core.Path.{_≡_, refl, _∙_}
-use Prim.Native.Nat.{_*_}
 use lib.ListN.{length}
 use Rattle.laws.specs.Waiting.{work}
-use Rattle.model.specs.Sectors.{sectors}
+use Rattle.model.specs.Portals.{portalCount}
 use Rattle.graph.specs.EdgeTable.{tableGraph}
 use Rattle.laws.specs.Extending.{Keeps}
 use Rattle.laws.specs.Turns.{Lined}
@@ -29,7 +28,7 @@ abbrev D : tie.After-collect Inv-loop μ-loop → tie.After-drain Inv-loop μ-lo
 D c = c .before .before .before .before .before .before .before .before .before
 
 -- after a turn of the queue there are as many keys as numbers
-numbers : (d : tie.After-drain Inv-loop μ-loop) → length (d .drain .last .1 .1 .0) ≡ sectors (S (L d) .args .m) * 20
+numbers : (d : tie.After-drain Inv-loop μ-loop) → length (d .drain .last .1 .1 .0) ≡ portalCount (S (L d) .args .m)
 numbers d = d .drain .kept .1 .1 .0 ∙ L d .loop .inv .0 ∙ S (L d) .pre .0 .graph .numbers
 
 loop-holds : tie.Need-loop-holds Inv-loop μ-loop

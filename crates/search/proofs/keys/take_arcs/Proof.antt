@@ -6,7 +6,7 @@ use Prim.Native.Nat.{_+_, _-_, _*_, _≤_, _<_}
 use lib.ListN.{length}
 use denote.Ref.{now}
 use Rattle.laws.specs.Waiting.{work, work-arc}
-use Rattle.model.specs.Sectors.{sectors}
+use Rattle.model.specs.Portals.{sectorPortals, portalCount, arcCount}
 use Rattle.graph.specs.EdgeTable.{tableGraph}
 use Rattle.laws.specs.Extending.{Serves, turn-arc, turn-ends}
 use Rattle.search.specs.Turns.{arcs-of}
@@ -15,12 +15,12 @@ use Rattle.search.proofs.keys.take_arcs.Tie as tie
 
 abbrev Inv-loop : tie.InvT-loop
 Inv-loop m table u keys₀ wait₀ queue₀ end t₀ a₀ last keys wait queue t a =
-    (u * 20 ≤ a) × (a ≤ u * 20 + 20) × (length keys ≡ length keys₀) × (length wait ≡ length wait₀) × (length queue ≡ length queue₀) × (t ≤ length queue₀)
-    × Serves (tableGraph m table) u (u * 20) keys₀ wait₀ a keys wait
+    (u * sectorPortals ≤ a) × (a ≤ u * sectorPortals + sectorPortals) × (length keys ≡ length keys₀) × (length wait ≡ length wait₀) × (length queue ≡ length queue₀) × (t ≤ length queue₀)
+    × Serves (tableGraph m table) u (u * sectorPortals) keys₀ wait₀ a keys wait
     × (work keys wait ≤ work keys₀ wait₀)
 
 abbrev μ-loop : tie.MeasureT-loop
-μ-loop m table u keys₀ wait₀ queue₀ end t₀ a₀ last keys wait queue t a = u * 20 + 20 - a
+μ-loop m table u keys₀ wait₀ queue₀ end t₀ a₀ last keys wait queue t a = u * sectorPortals + sectorPortals - a
 
 abbrev S : tie.After-slice-known3 Inv-loop μ-loop → tie.Start Inv-loop μ-loop
 S c = c .before .before .before .before
@@ -55,11 +55,11 @@ loop-again c =
     let call = c .before .before .before .before .before .before .offer in
     let at = In c .before in
     let start = S (at .before) in
-    let inside : at .loop .a < start .args .u * 20 + 20 = omega (arith, In c .loop-test .taken) in
-    let in-arcs : at .loop .a < sectors (start .args .m) * 400 = omega (arith, start .pre .low) in
+    let inside : at .loop .a < start .args .u * sectorPortals + sectorPortals = omega (arith, In c .loop-test .taken) in
+    let in-arcs : at .loop .a < arcCount (start .args .m) = omega (arith, start .pre .low) in
     let sound = start .pre .searched .graph .sound in
-    let numbers : length (at .loop .keys) ≡ sectors (start .args .m) * 20 = at .loop .inv .2 ∙ start .pre .searched .graph .numbers in
-    let room : sectors (start .args .m) * 20 ≤ length (at .loop .wait) = omega (arith, at .loop .inv .3, start .pre .searched .graph .room) in
+    let numbers : length (at .loop .keys) ≡ portalCount (start .args .m) = at .loop .inv .2 ∙ start .pre .searched .graph .numbers in
+    let room : portalCount (start .args .m) ≤ length (at .loop .wait) = omega (arith, at .loop .inv .3, start .pre .searched .graph .room) in
     let took = call .ensures .1 in (
       omega (arith, at .loop .inv .0),
       omega arith,
