@@ -8,7 +8,7 @@ use mathlib.Core.List.{List, [], _++_, append-nil}
 use lib.ListN.{length, getD, set, List·getD-append}
 use lib.Seq.{set-append-left}
 use Rattle.laws.specs.Graph.{Graph, Sound, Walk, stay, along, below-or}
-use Rattle.laws.specs.LeastCosts.{relaxed, Relaxed, taken, kept, relaxed-cases}
+use Rattle.laws.specs.Relaxing.{relaxed, Relaxed, taken, kept, relaxed-cases}
 use Rattle.laws.specs.Offers.{offered, not-offered}
 use Rattle.laws.specs.Waiting.{Waiting, Serving, awaited, serving-none, serving-arc, serving-all}
 

@@ -12,6 +12,7 @@ pub mod Graph
 pub mod FirstLeast
 pub mod Winner
 pub mod Digits
+pub mod Relaxing
 pub mod LeastCosts
 pub mod Offers
 pub mod Waiting

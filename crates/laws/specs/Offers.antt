@@ -8,7 +8,7 @@ use lib.Dec.{ltb}
 use borrow.Author.Tests.{ltb-true, lt-ltb, le-ltb}
 use Rattle.laws.specs.Fold.{pick}
 use Rattle.laws.specs.Graph.{Graph, Low}
-use Rattle.laws.specs.LeastCosts.{offers, relaxed}
+use Rattle.laws.specs.Relaxing.{offers, relaxed}
 
 module _ (g : Graph) (d : List ℕ) (e : ℕ) where
   pub offered : 0 < g .weight e → getD d (g .tail e) 0 + g .weight e < getD d (g .head e) 0 → (offers g d e ≡ true) × (relaxed g d e ≡ set d (g .head e) (getD d (g .tail e) 0 + g .weight e))

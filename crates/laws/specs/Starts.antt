@@ -11,7 +11,7 @@ use borrow.Author.Count.{below-more}
 use borrow.Author.Tests.{lt-ltb, le-ltb}
 use Rattle.laws.specs.Fold.{pick}
 use Rattle.laws.specs.Graph.{Graph, Sound, Walk, stay, along, Settled, below-or, none-less, reached, walk-join}
-use Rattle.laws.specs.LeastCosts.{relaxed, outset}
+use Rattle.laws.specs.Relaxing.{relaxed, outset}
 use Rattle.laws.specs.Offers.{offered, not-offered}
 use Rattle.laws.specs.Waiting.{Waiting, Serving, awaited, waiting-none, waiting-over, serving-none, serving-arc, serving-all}
 use Rattle.laws.specs.Extending.{Extends, walk-extends}

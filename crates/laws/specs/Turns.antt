@@ -9,7 +9,7 @@ use lib.ListN.{length, getD, set, replicate, length-set, length-replicate}
 use lib.Seq.{getD-set-same, getD-set-other}
 use borrow.Author.Count.{below-more}
 use Rattle.laws.specs.Graph.{Graph, Sound, below-or}
-use Rattle.laws.specs.LeastCosts.{relaxed, outset, relaxed-cases, Relaxed, taken, kept, set-each}
+use Rattle.laws.specs.Relaxing.{relaxed, outset, relaxed-cases, Relaxed, taken, kept, set-each}
 use Rattle.laws.specs.Waiting.{Waiting, Serving, Held, awaited, work, work-arc, waiting-none}
 use Rattle.laws.specs.Extending.{Extends, ArcsOf, entry, head-has, turn-arc, turn-ends}
 

@@ -11,7 +11,7 @@ use lib.ListN.{getD, length, set, replicate, length-set, length-replicate, getD-
 use lib.Seq.{getD-set-same, getD-set-other}
 use Rattle.laws.specs.Fold.{pick}
 use Rattle.laws.specs.Graph.{Graph, Sound, Rough, Low, Settled}
-use Rattle.laws.specs.LeastCosts.{offers, relaxed, total, outset, set-each, Relaxed, taken, kept, relaxed-cases, lowered-rough, outset-rough}
+use Rattle.laws.specs.Relaxing.{offers, relaxed, outset, set-each, Relaxed, taken, kept, relaxed-cases, lowered-rough, outset-rough}
 use Rattle.laws.specs.Offers.{offered, not-offered}
 
 -- the tail of arc e waits, or the arc offers nothing
@@ -33,6 +33,10 @@ pub record Serving (g : Graph) (s top : ℕ) (d p : List ℕ) (u m : ℕ) : Type
 -- p after arc e: its head waits if it took the offer
 unfoldable pub awaited : Graph → List ℕ → List ℕ → ℕ → List ℕ
 awaited g d p e = pick (offers g d e) (set p (g .head e) 1) p
+
+unfoldable pub total : List ℕ → ℕ
+total [] = 0
+total (x ∷ xs) = x + total xs
 
 -- what each turn brings down
 unfoldable pub work : List ℕ → List ℕ → ℕ
@@ -74,7 +78,7 @@ module _ {g : Graph} {s top : ℕ} (sound : Sound g) where
       }
     where
       rough : Rough g s top (outset g s top)
-      rough = outset-rough sound l t
+      rough = outset-rough l t
 
       none : List ℕ
       none = replicate n 0

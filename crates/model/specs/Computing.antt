@@ -7,7 +7,8 @@ use Rattle.laws.specs.Ladder.{refuse}
 use Rattle.laws.specs.Region.{region, within}
 use Rattle.laws.specs.Table.{tabulate}
 use Rattle.laws.specs.Digits.{packed, unpacked}
-use Rattle.laws.specs.LeastCosts.{links, lowered, swept, sweeps, outset, least-costs}
+use Rattle.laws.specs.Relaxing.{outset}
+use Rattle.laws.specs.LeastCosts.{links, lowered, swept, sweeps, least-costs}
 use Rattle.laws.specs.FirstPath.{tight, better, closer, next, path}
 use Rattle.laws.specs.Members.{pairs}
 use Rattle.laws.specs.Winner.{beat, winner}

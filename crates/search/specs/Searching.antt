@@ -5,7 +5,7 @@ use mathlib.Core.Path.{_≡_, refl, ap, _∙_}
 use mathlib.Core.List.{List}
 use lib.ListN.{length, getD, set}
 use Rattle.laws.specs.Graph.{Sound}
-use Rattle.laws.specs.LeastCosts.{relaxed}
+use Rattle.laws.specs.Relaxing.{relaxed}
 use Rattle.laws.specs.Offers.{offered, not-offered}
 use Rattle.laws.specs.Waiting.{awaited}
 use Rattle.laws.specs.Turns.{Searchable, searchable-in}

@@ -5,7 +5,7 @@ use mathlib.Core.Path.{_≡_, ap, _∙_}
 use mathlib.Core.Logic.{_≢_}
 use mathlib.Core.List.{List}
 use lib.ListN.{length, getD}
-use Rattle.laws.specs.LeastCosts.{relaxed}
+use Rattle.laws.specs.Relaxing.{relaxed}
 use Rattle.laws.specs.Waiting.{awaited}
 use Rattle.laws.specs.Extending.{ArcsOf}
 use Rattle.laws.specs.Turns.{Served, served-alone}

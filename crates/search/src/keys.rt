@@ -5,7 +5,7 @@ ghost use mathlib.Core.Bool.{false};
 ghost use Prim.Native.Nat.{ℕ, _+_, _*_, _/_, _≤_, _<_};
 ghost use lib.ListN.{length, getD, set, replicate};
 ghost use Rattle.laws.specs.Graph.{BothWays};
-ghost use Rattle.laws.specs.LeastCosts.{relaxed};
+ghost use Rattle.laws.specs.Relaxing.{relaxed};
 ghost use Rattle.laws.specs.Waiting.{awaited, work};
 ghost use Rattle.laws.specs.Extending.{Keeps};
 ghost use Rattle.laws.specs.Turns.{Turned, Lined};
