@@ -74,7 +74,8 @@ joins key leg last low = go (ltb leg apart) (ltb last apart) (ltb key unlinked) 
     go true false c e f g l = absurd (omega arith)
     go true true false e f g l = absurd (omega arith)
 
--- the pairs of two sectors, and the run of pair j: from place j / 20 of the start sector to place j % 20 of the end sector, whose first numbers are p and q
+-- the pairs of two sectors, and the run of pair j: from place j / sectorPortals of the start sector, whose first number is p,
+-- to place j % sectorPortals of the end sector, whose first number is q
 abbrev pub sectorPairs : ℕ
 sectorPairs = sectorPortals * sectorPortals
 
@@ -111,7 +112,7 @@ module _ (h : Hall) (source goal : ℕ) where
         cell linkedPair (endOf h (portalGraph h) goal)
         (λ p. isPortal h p && joined (h .scaled) source (midCell h p))
         (λ p. isPortal h p && joined (h .scaled) (midCell h p) goal)
-        (sectorOf source * sectorPortals) (sectorOf goal * sectorPortals)
+        sectorPortals (sectorOf source * sectorPortals) (sectorOf goal * sectorPortals)
 
     pairs-are : routePairs h (portalGraph h) source goal ≡ spans cells sectorPairs 0
     unfolding routePairs starts ends cells
@@ -119,7 +120,7 @@ module _ (h : Hall) (source goal : ℕ) where
         pairs-in-row linkedPair (endOf h (portalGraph h) goal)
         (λ p. isPortal h p && joined (h .scaled) source (midCell h p))
         (λ p. isPortal h p && joined (h .scaled) (midCell h p) goal)
-        (sectorOf source * sectorPortals) (sectorOf goal * sectorPortals)
+        sectorPortals (sectorOf goal * sectorPortals) sectorPortals (sectorOf source * sectorPortals)
 
     cell-is : (j : ℕ) → j < sectorPairs → cells j ≡ pick (ltb (legAt j) apart) (pick (ltb (lastAt j) apart) (pick (ltb (keyAt j) unlinked) (pairAt j ∷ []) []) []) []
     unfolding cells linkedPair endOf

@@ -1,6 +1,6 @@
 -- The lists that a rule gives for the numbers from a on, one after another, and pairs of passing numbers as such a row.
 use Prim.Native.Nat.{ℕ, zero, suc, _+_, _*_, _/_, _%_, _<_}
-use native.Mathlib.Nat.{add-zero, zero-add, add-suc, suc-add}
+use native.Mathlib.Nat.{add-zero, zero-add, add-suc, suc-add, zero-mul, suc-mul, mul-add-div-right, mul-add-mod-self-right, div-eq-of-lt, mod-eq-of-lt}
 use native.Mathlib.Omega.{arith}
 use mathlib.Core.Path.{_≡_, refl, sym, ap, _∙_}
 use mathlib.Core.Bool.{Bool, true, false}
@@ -56,39 +56,40 @@ unfolding flatMap
 lists-same f g [] same = refl
 lists-same {B = B} f g (x ∷ xs) same = rw (same x) (ap (λ (t : List B). g x ++ t) (lists-same f g xs same))
 
--- what the pair of a + k / 20 and b + k % 20 gives, if both pass
-abbrev pub cell : {A B : Type 0} → (ℕ → B → List A) → (ℕ → B) → (ℕ → Bool) → (ℕ → Bool) → ℕ → ℕ → ℕ → List A
-cell f g p q a b k = pick (p (a + k / 20)) (pick (q (b + k % 20)) (f (a + k / 20) (g (b + k % 20))) []) []
+-- what the pair of a + k / w and b + k % w gives, if both pass
+abbrev pub cell : {A B : Type 0} → (ℕ → B → List A) → (ℕ → B) → (ℕ → Bool) → (ℕ → Bool) → ℕ → ℕ → ℕ → ℕ → List A
+cell f g p q w a b k = pick (p (a + k / w)) (pick (q (b + k % w)) (f (a + k / w) (g (b + k % w))) []) []
 
-module _ {A B : Type 0} (f : ℕ → B → List A) (g : ℕ → B) (p q : ℕ → Bool) where
-  -- row by row
-  abbrev inner : ℕ → ℕ → List A
-  inner b v = spans (λ w. pick (q w) (f v (g w)) []) 20 b
+module _ {A B : Type 0} (f : ℕ → B → List A) (g : ℕ → B) (p q : ℕ → Bool) (w : ℕ) (b : ℕ) where
+  -- row by row, w numbers in each
+  abbrev inner : ℕ → List A
+  inner v = spans (λ x. pick (q x) (f v (g x)) []) w b
 
-  row-is : (n a b : ℕ) → spans (cell f g p q a b) 20 (n * 20) ≡ pick (p (a + n)) (inner b (a + n)) []
-  row-is n a b = spans-same (cell f g p q a b) (λ w. pick (p (a + n)) (pick (q w) (f (a + n) (g w)) []) []) 20 (n * 20) b (λ k l. at k (omega arith) (omega arith)) ∙ go (p (a + n))
+  row-is : (n a : ℕ) → spans (cell f g p q w a b) w (n * w) ≡ pick (p (a + n)) (inner (a + n)) []
+  row-is n a =
+      spans-same (cell f g p q w a b) (λ x. pick (p (a + n)) (pick (q x) (f (a + n) (g x)) []) []) w (n * w) b
+      (λ k l. at k (mul-add-div-right (omega arith) n k ∙ rw (div-eq-of-lt l) (add-zero n)) (mul-add-mod-self-right n w k ∙ mod-eq-of-lt l)) ∙ go (p (a + n))
     where
       at : (k : ℕ) {i j : ℕ} → i ≡ n → j ≡ k → pick (p (a + i)) (pick (q (b + j)) (f (a + i) (g (b + j))) []) [] ≡ pick (p (a + n)) (pick (q (b + k)) (f (a + n) (g (b + k))) []) []
       at k e h = rw (e, h)
 
-      go : (t : Bool) → spans (λ w. pick t (pick (q w) (f (a + n) (g w)) []) []) 20 b ≡ pick t (inner b (a + n)) []
+      go : (t : Bool) → spans (λ x. pick t (pick (q x) (f (a + n) (g x)) []) []) w b ≡ pick t (inner (a + n)) []
       go true = refl
-      go false = spans-empty (λ w. []) 20 b (λ k. refl)
+      go false = spans-empty (λ x. []) w b (λ k. refl)
 
-  rows : (n a b : ℕ) → spans (λ v. pick (p v) (inner b v) []) n a ≡ spans (cell f g p q a b) (n * 20) 0
+  rows : (n a : ℕ) → spans (λ v. pick (p v) (inner v) []) n a ≡ spans (cell f g p q w a b) (n * w) 0
   unfolding spans
-  rows zero a b = refl
-  rows (suc n) a b =
+  rows zero a = rw (zero-mul w) refl
+  rows (suc n) a =
       let one : suc n ≡ n + 1 = omega arith in
-      let turn : suc n * 20 ≡ n * 20 + 20 = omega arith in
-      let first : ℕ → List A = λ v. pick (p v) (inner b v) [] in
+      let first : ℕ → List A = λ v. pick (p v) (inner v) [] in
       ap (λ (k : ℕ). spans first k a) one ∙ spans-join first n 1 a ∙ ap (λ (t : List A). spans first n a ++ t) (append-nil (first (a + n)))
-      ∙ rw (rows n a b, ← row-is n a b)
-      (sym (ap (λ (k : ℕ). spans (cell f g p q a b) k 0) turn ∙ spans-join (cell f g p q a b) (n * 20) 20 0
-      ∙ ap (λ (k : ℕ). spans (cell f g p q a b) (n * 20) 0 ++ spans (cell f g p q a b) 20 k) (zero-add (n * 20))))
+      ∙ rw (rows n a, ← row-is n a)
+      (sym (ap (λ (k : ℕ). spans (cell f g p q w a b) k 0) (suc-mul n w) ∙ spans-join (cell f g p q w a b) (n * w) w 0
+      ∙ ap (λ (k : ℕ). spans (cell f g p q w a b) (n * w) 0 ++ spans (cell f g p q w a b) w k) (zero-add (n * w))))
 
-  pub pairs-in-row : (a b : ℕ) → pairs f (passing p 20 a) (map g (passing q 20 b)) ≡ spans (cell f g p q a b) 400 0
+  pub pairs-in-row : (n a : ℕ) → pairs f (passing p n a) (map g (passing q w b)) ≡ spans (cell f g p q w a b) (n * w) 0
   unfolding pairs
-  pairs-in-row a b =
-      lists-same (λ x. flatMap (f x) (map g (passing q 20 b))) (inner b) (passing p 20 a) (λ x. lists-map (f x) g (passing q 20 b) ∙ passing-lists (λ w. f x (g w)) q 20 b)
-      ∙ passing-lists (inner b) p 20 a ∙ rows 20 a b
+  pairs-in-row n a =
+      lists-same (λ x. flatMap (f x) (map g (passing q w b))) inner (passing p n a) (λ x. lists-map (f x) g (passing q w b) ∙ passing-lists (λ y. f x (g y)) q w b)
+      ∙ passing-lists inner p n a ∙ rows n a
