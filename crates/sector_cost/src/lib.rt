@@ -14,13 +14,14 @@ ghost use Rattle.walks.specs.Costs.{Costs};
 ghost use Rattle.walks.specs.Walks.{Shows};
 use crate::nearby::is_there;
 use crate::nearby::nearby;
+use fields::copies::copy_part;
+use fields::costs::is_open;
+use fields::sectors::SECTOR_CELLS;
 use fields::sectors::sectors;
 use model::Measures;
 use walks::board::corner;
 use walks::board::show_floor;
 use walks::board::walls;
-use walks::copies::copy_part;
-use walks::is_open;
 use walks::walk::scale_in_directions;
 
 // The eight walks from a cell, if it is base-blocked.
@@ -37,7 +38,7 @@ fn scale_cell(
     ensures list { λ _. ⌜ now (scaled .exit) ≡ scaleCell m (now (base .entry)) s i (now (scaled .entry)) ⌝ }
     ensures shown { λ _. ⌜ Shows m s o (now (scaled .exit)) (now (board .exit)) ⌝ }
 {
-    if is_open(base, s * 100 + i) {
+    if is_open(base, s * SECTOR_CELLS + i) {
         return;
     }
     scale_in_directions(m, s, o, i, scaled, board);
@@ -51,7 +52,7 @@ fn scale_costfield(m: Measures, base: &[u8], s: usize, scaled: &mut [u8], board:
 {
     let o = corner(m, s);
     let mut i = 0;
-    while i < 100 {
+    while i < SECTOR_CELLS {
         scale_cell(m, base, s, o, i, scaled, board);
         i += 1;
     }
@@ -88,7 +89,13 @@ fn reset_sector(base: &[u8], s: usize, scaled: &mut [u8])
     requires { ⌜ (s * 100 + 100 ≤ length (now base)) × (length (now scaled) ≡ length (now base)) ⌝ }
     ensures { λ _. ⌜ now (scaled .exit) ≡ resetSector (now (base .entry)) s (now (scaled .entry)) ⌝ }
 {
-    copy_part(base, s * 100, 100, s * 100, scaled);
+    copy_part(
+        base,
+        s * SECTOR_CELLS,
+        SECTOR_CELLS,
+        s * SECTOR_CELLS,
+        scaled,
+    );
 }
 
 // Resets place k of the sectors around t, if there is one.

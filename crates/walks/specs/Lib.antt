@@ -1,5 +1,4 @@
 pub mod Costs
-pub mod Copies
 pub mod Lines
 pub mod Board
 pub mod Showing

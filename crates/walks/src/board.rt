@@ -5,7 +5,7 @@ ghost use lib.ListN.{replicate};
 ghost use Rattle.walks.specs.Costs.{Costs};
 ghost use Rattle.walks.specs.Board.{boardOf, corner};
 ghost use Rattle.walks.specs.Showing.{Showing, rowStart};
-use crate::copies::copy_part;
+use fields::copies::copy_part;
 use fields::numbers::wide;
 use model::Measures;
 

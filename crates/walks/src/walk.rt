@@ -8,7 +8,7 @@ ghost use Rattle.model.specs.Scaling.{passes, blockStep, blockPassed, walk};
 ghost use Rattle.walks.specs.Lines.{Line, blockedOn};
 ghost use Rattle.walks.specs.Board.{stride};
 ghost use Rattle.walks.specs.Walks.{blockSpot, Shows};
-use crate::is_open;
+use fields::costs::is_open;
 use fields::directions::eastward;
 use fields::directions::southward;
 use fields::numbers::wide;

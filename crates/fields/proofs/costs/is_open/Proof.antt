@@ -1,8 +1,8 @@
--- `is_open` answers whether the cost that stands at a number is not 255.
+-- `costs::is_open` answers whether the cost that stands at a number is not 255.
 use Rattle.model.specs.CostsRead.{open-here}
 use borrow.Author.Needs.{needs}
-use Rattle.walks.proofs.is_open.Statement.{statement}
-use Rattle.walks.proofs.is_open.Tie as tie
+use Rattle.fields.proofs.costs.is_open.Statement.{statement}
+use Rattle.fields.proofs.costs.is_open.Tie as tie
 
 returns : tie.Need-returns
 returns c = open-here _ _ (search needs)

@@ -2,10 +2,10 @@
 use native.Mathlib.Omega.{arith}
 use lib.ListN.{length-take, length-drop}
 use denote.Ref.{now}
-use Rattle.walks.specs.Copies.{part-came}
+use Rattle.fields.specs.Copies.{part-came}
 use borrow.Author.Needs.{needs}
-use Rattle.walks.proofs.copies.copy_part.Statement.{statement}
-use Rattle.walks.proofs.copies.copy_part.Tie as tie
+use Rattle.fields.proofs.copies.copy_part.Statement.{statement}
+use Rattle.fields.proofs.copies.copy_part.Tie as tie
 
 put-part-requires : tie.Need-put-part-requires
 put-part-requires c κs = simp (length-take, length-drop) (omega arith)
