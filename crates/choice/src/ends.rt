@@ -12,6 +12,7 @@ use graph::edges::KEY_STEP;
 use graph::portals::HALL_PORTALS;
 use graph::portals::SECTOR_PORTALS;
 use model::Measures;
+use moves::spread::APART;
 use search::keys::QUEUE_ROOM;
 use search::keys::collect;
 use search::keys::fill_keys;
@@ -23,7 +24,7 @@ fn offer_end(v: usize, last: u8, keys: &mut [u32], wait: &mut [u8])
     requires { ⌜ (v < length (now keys)) × (v < length (now wait)) × (v < 65536) ⌝ }
     ensures { λ _. ⌜ Tried v (endWeight last) (now (keys .entry)) (now (wait .entry)) (now (keys .exit)) (now (wait .exit)) ⌝ }
 {
-    if last == 255 {
+    if last == APART {
         return;
     }
     let w = KEY_STEP * (last as u32 + 1);

@@ -15,6 +15,7 @@ use graph::edges::KEY_STEP;
 use graph::edges::UNLINKED;
 use graph::portals::SECTOR_PORTALS;
 use model::Measures;
+use moves::spread::APART;
 use search::keys::keys_to;
 
 // How many pairs there are of a place in the sector of the source and one in that of the goal.
@@ -24,10 +25,10 @@ pub const PAIRS: usize = SECTOR_PORTALS * SECTOR_PORTALS;
 fn run_of(key: u32, leg: u8, last: u8) -> u32
     ensures { λ r. ⌜ r ≡ runFor key leg last ⌝ }
 {
-    if leg == 255 {
+    if leg == APART {
         return UNLINKED;
     }
-    if last == 255 {
+    if last == APART {
         return UNLINKED;
     }
     if key == UNLINKED {

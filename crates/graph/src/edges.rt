@@ -24,6 +24,7 @@ use fields::sectors::SECTOR_CELLS;
 use fields::sectors::has_beyond;
 use fields::sectors::sectors;
 use model::Measures;
+use moves::spread::APART;
 
 // An edge of weight w has the key KEY_STEP * w + 1, so that the least key of a path is the least cost, then the fewest edges.
 pub const KEY_STEP: u32 = 4096;
@@ -56,7 +57,7 @@ fn edge_at(levels: &[u64], n: usize, mid: u8, outer: u32, own: usize, c: usize) 
         return outer;
     }
     let moves = near_by(levels, n, mid);
-    if moves == 255 {
+    if moves == APART {
         return 0;
     }
     KEY_STEP * (moves as u32) + 1

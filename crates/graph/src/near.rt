@@ -18,6 +18,7 @@ use fields::numbers::wide;
 use fields::sectors::SECTOR_CELLS;
 use model::Measures;
 use moves::open_cells::open_words;
+use moves::spread::APART;
 use moves::spread::moves_at;
 use moves::spread::spread;
 use store::layout::sector_part;
@@ -48,13 +49,13 @@ pub fn sector_mids(st: &[u8], m: Measures, s: usize, mids: &mut [u8])
     }
 }
 
-// The moves to a midpoint, by n levels, or 255 where there is none.
+// The moves to a midpoint, by n levels, or APART where there is none.
 pub fn near_by(levels: &[u64], n: usize, mid: u8) -> u8
     requires { ⌜ (length (now levels) ≡ 202) × (n ≤ 101) ⌝ }
     ensures { λ r. ⌜ r ≡ nearBy (movesIn (now (levels .entry)) n) mid ⌝ }
 {
     if NO_CROSSING <= mid {
-        return 255;
+        return APART;
     }
     moves_at(levels, n, wide(mid))
 }
@@ -80,13 +81,13 @@ pub fn moves_from(st: &[u8], m: Measures, x: usize, words: &[u64], levels: &mut 
     )
 }
 
-// The fewest moves from one cell to another, or 255 where they are not joined.
+// The fewest moves from one cell to another, or APART where they are not joined.
 pub fn moves_to(st: &[u8], m: Measures, x: usize, y: usize) -> u8
     requires { ⌜ Opened m (now st) × (x < cells m) ⌝ }
     ensures { λ r. ⌜ r ≡ pick (joined (decode (now (st .entry)) .scaled) x y) (movesTo (decode (now (st .entry)) .scaled) x y) apart ⌝ }
 {
     if x / SECTOR_CELLS != y / SECTOR_CELLS {
-        return 255;
+        return APART;
     }
     let mut words: [u64; 2] = [0; 2];
     let mut levels: [u64; 202] = [0; 202];
@@ -95,7 +96,7 @@ pub fn moves_to(st: &[u8], m: Measures, x: usize, y: usize) -> u8
     moves_at(&levels, n, y % SECTOR_CELLS)
 }
 
-// The moves from cell x to the portals of its sector by place, and 255 where there are none or the place has no portal.
+// The moves from cell x to the portals of its sector by place, and APART where there are none or the place has no portal.
 pub fn portal_moves(st: &[u8], m: Measures, x: usize, near: &mut [u8])
     requires { ⌜ Opened m (now st) × (x < cells m) × (length (now near) ≡ sectorPortals) ⌝ }
     ensures { λ _. ⌜ now (near .exit) ≡ portalMoves (decode (now (st .entry))) x ⌝ }

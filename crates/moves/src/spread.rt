@@ -5,6 +5,10 @@ ghost use lib.ListN.{length, getD, set};
 ghost use Rattle.model.specs.Moves.{moves};
 ghost use Rattle.moves.specs.Levels.{openWords, firstWord, grownWord, Grown, Spread, missing, movesIn};
 use crate::open_cells::spot_of;
+use fields::costs::BLOCKED;
+
+// Stands for no moves: more than any count of moves inside a sector.
+pub const APART: u8 = 255;
 
 // Half h of level 0, which has cell `from` alone.
 fn first_word(from: usize, h: usize) -> u64
@@ -52,7 +56,7 @@ pub fn spread(costs: &[u8], words: &[u64], from: usize, levels: &mut [u64]) -> u
     ensures { λ r. ⌜ Spread (moves (now (costs .entry)) from) (now (levels .exit)) r ⌝ }
 {
     begin(from, levels);
-    if costs[from] == 255 {
+    if costs[from] == BLOCKED {
         return 1;
     }
     let mut d = 0;
@@ -81,7 +85,7 @@ fn lacking(levels: &[u64], n: usize, i: usize) -> u64
     lack
 }
 
-// The fewest moves to cell i, by n levels, and 255 where none lead.
+// The fewest moves to cell i, by n levels, and APART where none lead.
 pub fn moves_at(levels: &[u64], n: usize, i: usize) -> u8
     requires { ⌜ (length (now levels) ≡ 202) × (n ≤ 101) × (i < 100) ⌝ }
     ensures { λ r. ⌜ r ≡ getD (movesIn (now (levels .entry)) n) i 0 ⌝ }
@@ -90,5 +94,5 @@ pub fn moves_at(levels: &[u64], n: usize, i: usize) -> u8
     if (lack as usize) < n {
         return lack as u8;
     }
-    255
+    APART
 }

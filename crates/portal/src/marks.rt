@@ -7,6 +7,7 @@ use crate::border::boundary_field_cells;
 use crate::border::cell_index;
 use fields::bits::with_place;
 use fields::costs::open_at;
+use fields::sectors::SECTOR_CELLS;
 use fields::sectors::beyond;
 use fields::sectors::has_beyond;
 use model::BorderCells;
@@ -19,8 +20,8 @@ fn open_place(costs: &[u8], s: usize, own: FieldCell, t: usize, facing: FieldCel
     requires { ⌜ (s ≤ 20000) × (t ≤ 20000) ⌝ }
     ensures { λ r. ⌜ r ≡ openPair (now (costs .entry)) s own t facing ⌝ }
 {
-    if open_at(costs, s * 100 + cell_index(own)) {
-        return open_at(costs, t * 100 + cell_index(facing));
+    if open_at(costs, s * SECTOR_CELLS + cell_index(own)) {
+        return open_at(costs, t * SECTOR_CELLS + cell_index(facing));
     }
     false
 }

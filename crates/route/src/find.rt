@@ -23,6 +23,7 @@ use graph::portals::SECTOR_ARCS;
 use graph::portals::SECTOR_PORTALS;
 use model::Measures;
 use model::Routed;
+use moves::spread::APART;
 use path::least::least_path;
 use path::steps::step_count;
 use path::steps::write_last;
@@ -94,8 +95,8 @@ fn through_lists(
     ensures answer { λ r. ⌜ r ≡ foundAnswer (throughPortals (decode (now (st .entry))) (portalGraph (decode (now (st .entry)))) source goal) ⌝ }
     ensures steps { λ _. ⌜ now (list .exit) ≡ foundInto (throughPortals (decode (now (st .entry))) (portalGraph (decode (now (st .entry)))) source goal) (now (list .entry)) ⌝ }
 {
-    let mut legs: [u8; SECTOR_PORTALS] = [255; SECTOR_PORTALS];
-    let mut lasts: [u8; SECTOR_PORTALS] = [255; SECTOR_PORTALS];
+    let mut legs: [u8; SECTOR_PORTALS] = [APART; SECTOR_PORTALS];
+    let mut lasts: [u8; SECTOR_PORTALS] = [APART; SECTOR_PORTALS];
     portal_moves(st, m, source, &mut legs);
     portal_moves(st, m, goal, &mut lasts);
     fill_edges(st, m, table);
@@ -159,7 +160,7 @@ pub fn find_path(st: &[u8], m: Measures, source: usize, goal: usize, list: &mut 
     ensures steps { λ _. ⌜ now (list .exit) ≡ foundInto (routeOf (decode (now (st .entry))) source goal) (now (list .entry)) ⌝ }
 {
     let moves = moves_to(st, m, source, goal);
-    if moves == 255 {
+    if moves == APART {
         return through_portals(st, m, source, goal, list);
     }
     one_step(m, goal, moves, list)

@@ -124,7 +124,7 @@ fn take_arcs(
     t
 }
 
-// All arcs of number u that offer something: those of its 20, or only the one to the facing portal where no other offers anything.
+// All arcs of number u that offer something: those of its places, or only the one to the facing portal where no other offers anything.
 fn take_turn(
     m: Measures,
     table: &[u32],
@@ -289,7 +289,7 @@ fn search(
     settle(m, table, keys, wait, queue, 1);
 }
 
-// The least key of a path to portal e from each portal, and 4294967295 where there is none.
+// The least key of a path to portal e from each portal, and UNLINKED where there is none.
 pub fn keys_to(m: Measures, table: &[u32], e: usize, keys: &mut [u32])
     requires { ⌜ Searched m (now table) (length (now keys)) hallPortals × (e < portalCount m) ⌝ }
     requires { ⌜ BothWays (tableGraph m (now table)) ⌝ }

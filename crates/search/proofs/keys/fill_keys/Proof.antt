@@ -5,11 +5,12 @@ use Prim.Native.Nat.{_-_}
 use lib.ListN.{length}
 use borrow.Author.Needs.{needs}
 use Rattle.laws.specs.Table.{Tabled, tabled-none, tabled-more, tabled-fill}
+use Rattle.model.specs.LeastPath.{unlinked}
 use Rattle.search.proofs.keys.fill_keys.Statement.{statement}
 use Rattle.search.proofs.keys.fill_keys.Tie as tie
 
 abbrev Inv-loop : tie.InvT-loop
-Inv-loop keys₀ i₀ keys i = Tabled (λ _. 4294967295) (length keys₀) i keys
+Inv-loop keys₀ i₀ keys i = Tabled (λ _. unlinked) (length keys₀) i keys
 
 abbrev μ-loop : tie.MeasureT-loop
 μ-loop keys₀ i₀ keys i = length keys₀ - i
@@ -36,7 +37,7 @@ same-length : tie.Need-same-length Inv-loop μ-loop
 same-length c = c .before .loop .inv .long
 
 returns : tie.Need-returns Inv-loop μ-loop
-returns c = tabled-fill 4294967295 (c .before .loop .inv) (omega (arith, c .before .loop .inv .long))
+returns c = tabled-fill unlinked (c .before .loop .inv) (omega (arith, c .before .loop .inv .long))
 
 pub fill-keys-spec : {M : Type 1} → statement M
 fill-keys-spec =
