@@ -2,7 +2,8 @@
 use mathlib.Core.Path.{_≡_, refl, sym, ap, ap₂, _∙_, subst}
 use mathlib.Core.Bool.{Bool, true, false, not, cond, true≢false, false≢true}
 use Prim.Native.Nat.{ℕ, zero, suc, _+_, _-_, _*_, _/_, _%_, _^_, _≤_, _<_, min}
-use native.Mathlib.Nat.{suc-mul, add-mul, mul-comm, mul-assoc, mul-pos, div-div-eq-div-mul, mul-add-div-right, div-eq-of-lt, add-zero, zero-mul, mod-eq-of-lt, mul-le-mul, le-div-iff-mul-le, div-lt-iff-lt-mul, div-eq-of-lt-le, one-mul, mul-div-cancel, le-add-right, lt-of-le-of-lt, lt-of-lt-of-le, le-trans, not-suc-le-zero}
+use native.Mathlib.Nat.{suc-mul, add-mul, mul-comm, mul-assoc, mul-pos, div-div-eq-div-mul, mul-add-div-right, div-eq-of-lt, add-zero, zero-mul, mod-eq-of-lt}
+use native.Mathlib.Nat.{mul-le-mul, le-div-iff-mul-le, div-lt-iff-lt-mul, div-eq-of-lt-le, one-mul, mul-div-cancel, le-add-right, lt-of-le-of-lt, lt-of-lt-of-le, le-trans, not-suc-le-zero}
 use native.Mathlib.Omega.{arith}
 use lib.Dec.{T, leb, eqb, lit<, lit≤}
 use lib.Pow.{pow-add, pow-pos, pow-mono}

@@ -14,7 +14,8 @@ use Rattle.model.specs.declared.Side.{Side}
 use Rattle.model.specs.Sectors.{sectorCells, floorNumber, sectorOf, placeOf, costsOf, hasBeyond}
 use Rattle.model.specs.Moves.{moves, apart}
 use Rattle.model.specs.Halls.{Hall}
-use Rattle.model.specs.Portals.{sectorPortals, arcCount, portalSector, portalSide, portalPlace, placePortal, arcTail, arcPlace, arcAt, isPortal, midpoint, movesFrom, facing, key, outerEdge, innerEdge, edgeAt, portalGraph}
+use Rattle.model.specs.Portals.{sectorPortals, arcCount, portalSector, portalSide, portalPlace, placePortal, arcTail, arcPlace, arcAt}
+use Rattle.model.specs.Portals.{isPortal, midpoint, movesFrom, facing, key, outerEdge, innerEdge, edgeAt, portalGraph}
 use Rattle.model.specs.PortalCrossings.{Fits, mid-low}
 use Rattle.model.specs.PortalEdges.{weight-at}
 use Rattle.model.specs.Store.{decode}

@@ -24,7 +24,9 @@ module _ (m : Measures) (base lent : List ℕ) (list : List Call) (source goal :
 
     pub refused-last : {out : List ℕ} → out ≡ reachSteps m base lent list steps → out ≡ journeySteps m base lent list source goal steps
     unfolding journeySteps
-    refused-last e = e ∙ sym (refused-steps m base lent list steps is refused) ∙ old-kept m base lent list steps is refused (routeFlat (storeAfter (buildInto m base lent) list) source goal (stepsAfter (buildInto m base lent) list steps)) steps
+    refused-last e =
+        let asked : List ℕ = routeFlat (storeAfter (buildInto m base lent) list) source goal (stepsAfter (buildInto m base lent) list steps) in
+        e ∙ sym (refused-steps m base lent list steps is refused) ∙ old-kept m base lent list steps is refused asked steps
 
     pub refused-keeps : {r : Routed} → Demand3 m base lent list source goal (length steps / 6) r
     refused-keeps = refused-promise (rw is at refused)

@@ -1,6 +1,7 @@
 -- A list as one number, whose digits are the entries: a digit is read and lowered in one step, where a list is walked through. The base is above all entries.
 use Prim.Native.Nat.{ℕ, zero, suc, _+_, _-_, _*_, _/_, _%_, _^_, _≤_, _<_}
-use native.Mathlib.Nat.{zero-add, mul-one, mul-add, mul-left-comm, pow-zero, pow-succ', one-le-pow, mul-pos, mod-eq-of-lt, div-one, div-eq-of-lt, div-div-eq-div-mul, add-mul-div-left, add-mul-mod-self-left}
+use native.Mathlib.Nat.{zero-add, mul-one, mul-add, mul-left-comm, pow-zero, pow-succ', one-le-pow}
+use native.Mathlib.Nat.{mul-pos, mod-eq-of-lt, div-one, div-eq-of-lt, div-div-eq-div-mul, add-mul-div-left, add-mul-mod-self-left}
 use native.Mathlib.Omega.{arith}
 use mathlib.Core.Path.{_≡_, _∙_}
 use mathlib.Core.List.{List, [], _∷_}

@@ -35,9 +35,17 @@ use Rattle.model.specs.Calls.{stepList, foundNumber, routeNumber, routed
 use Rattle.model.specs.Calls.{windowsFrom, flatWindows, windowsNumber, listed, windowsAnswer, windowsFlat, storeAfterCall, storeAfter}
 use Rattle.model.specs.Hallroute.{digits, windowText, stepText, stepsText, answerText, pairText, pairLines, fileSize, hallLines, fileLines, hallroute}
 
+unfoldable in-numbers : Unit {0}
+unfolding mul div lt le ofBits bit packed unpacked
+in-numbers = tt
+
 unfoldable in-lists : Unit {0}
-unfolding mul div lt le ofBits run bit first any passing refuse region within tabulate packed unpacked links lowered swept sweeps outset least-costs tight better closer next path flatMap pairs beat winner
+unfolding run first any passing refuse region within tabulate flatMap pairs beat winner
 in-lists = tt
+
+unfoldable in-graphs : Unit {0}
+unfolding links lowered swept sweeps outset least-costs tight better closer next path
+in-graphs = tt
 
 unfoldable in-floor : Unit {0}
 unfolding beside openAt across down beyond hasBeyond flatSteps stepsIn landing onFloor badSectors badScale
@@ -88,5 +96,5 @@ unfolding digits windowText stepText stepsText answerText pairText pairLines fil
 in-text = tt
 
 unfoldable pub computing : Unit {0}
-unfolding in-lists in-floor in-scaling in-windows in-portals in-change in-route in-bytes in-calls in-stores in-routes in-listed in-text
+unfolding in-numbers in-lists in-graphs in-floor in-scaling in-windows in-portals in-change in-route in-bytes in-calls in-stores in-routes in-listed in-text
 computing = tt

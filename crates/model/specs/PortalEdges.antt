@@ -21,7 +21,8 @@ use Rattle.model.specs.SectorSides.{lies-beyond}
 use Rattle.model.specs.Moves.{apart, movesTo, joined}
 use Rattle.model.specs.MovesFewest.{joined-is, is-joined, joined-back}
 use Rattle.model.specs.Halls.{Hall}
-use Rattle.model.specs.Portals.{sidePortals, sectorPortals, portalCount, portalAt, portalSector, portalSide, portalWindow, portalPlace, placePortal, isPortal, midpoint, midCell, movesFrom, facing, headOf, key, outerEdge, innerEdge, edgeAt, edgesFrom, edgesOf, edges, arcTail, arcPlace, arcAt, portalGraph}
+use Rattle.model.specs.Portals.{sidePortals, sectorPortals, portalCount, portalAt, portalSector, portalSide, portalWindow, portalPlace, placePortal, isPortal, midpoint, midCell, movesFrom}
+use Rattle.model.specs.Portals.{facing, headOf, key, outerEdge, innerEdge, edgeAt, edgesFrom, edgesOf, edges, arcTail, arcPlace, arcAt, portalGraph}
 use Rattle.model.specs.PortalNumbers.{numbered, number-is, portal-is, portal-low}
 use Rattle.model.specs.PortalCrossings.{Fits, mid-sector, moves-between}
 
