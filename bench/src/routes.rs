@@ -18,7 +18,7 @@ use crate::timing::{RUN, Times, timed};
 /// Routes of a row.
 const ROUTES: usize = 200;
 /// The steps that the lent list has room for.
-const ROOM: usize = 1001;
+pub const ROOM: usize = 1001;
 /// Columns and rows of the halls that show the growth.
 const SIDES: [usize; 5] = [1, 2, 4, 7, 10];
 
@@ -128,7 +128,7 @@ fn corners(floor: &Floor, _: &mut Draw) -> (usize, usize) {
     (open[0], open[open.len() - 1])
 }
 
-fn random(floor: &Floor, draw: &mut Draw) -> (usize, usize) {
+pub fn random(floor: &Floor, draw: &mut Draw) -> (usize, usize) {
     let all = open_cells(floor, 0..floor.costs.len());
     (draw.pick(&all), draw.pick(&all))
 }

@@ -41,14 +41,20 @@ pub fn print() {
 
 /// A hall built by both sides: the library's store and the Rust's hall.
 pub fn built(scale: u8, floor: &Floor) -> (Vec<u8>, Hall) {
+    let (_, measures) = empty(scale, floor);
+    (stored(scale, floor), Hall::build(measures, &floor.costs))
+}
+
+/// The library's store of a hall.
+pub fn stored(scale: u8, floor: &Floor) -> Vec<u8> {
     let (mut store, measures) = empty(scale, floor);
     let number = bytes::build(measures, &floor.costs, &mut store);
     assert!(number == 0, "build is {number}");
-    (store, Hall::build(measures, &floor.costs))
+    store
 }
 
 /// A store of the floor's size, and the measures.
-fn empty(scale: u8, floor: &Floor) -> (Vec<u8>, [u8; 3]) {
+pub fn empty(scale: u8, floor: &Floor) -> (Vec<u8>, [u8; 3]) {
     let store = vec![0; 4 + 208 * floor.columns * floor.rows];
     (store, [floor.columns as u8, floor.rows as u8, scale])
 }
