@@ -82,7 +82,6 @@ module _ (costs : List ℕ) where
     pub moves-any : {j n : ℕ} → Walk (moveGraph costs) i j n → (getD (moves costs i) j 0 < apart) × (getD (moves costs i) j 0 ≤ n)
     moves-any w = (reached {most = 1} moves-settled move-sound (λ e l. move-low costs (e / 4) (beside (e / 4) (sideAt (e % 4)))) (omega arith) w, none-less moves-settled w)
 
-  -- a cell is no moves from itself, blocked or not
   -- the way back is as long
   moves-back : (i j : ℕ) → i < 100 → j < 100 → getD (moves costs i) j 0 < apart → getD (moves costs j) i 0 ≡ getD (moves costs i) j 0
   moves-back i j l k b =

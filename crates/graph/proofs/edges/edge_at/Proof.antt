@@ -5,8 +5,6 @@ use borrow.Author.Needs.{needs}
 use Rattle.graph.proofs.edges.edge_at.Statement.{statement}
 use Rattle.graph.proofs.edges.edge_at.Tie as tie
 
--- `edge_at` answers by the place, and by the moves to its midpoint.
-
 returns : tie.Need-returns
 returns c = edge-own _ _ _ _ _ (c .if1 .taken)
 

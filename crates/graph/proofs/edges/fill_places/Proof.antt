@@ -10,8 +10,6 @@ use borrow.Author.Needs.{needs}
 use Rattle.graph.proofs.edges.fill_places.Statement.{statement}
 use Rattle.graph.proofs.edges.fill_places.Tie as tie
 
--- `fill_places` takes the edge at each place of one portal.
-
 abbrev Inv-loop : tie.InvT-loop
 Inv-loop p levels n mids outer table₀ c₀ table c = Row (λ k. edgeBy (movesIn levels n) (getD mids k 0) outer (portalPlace p) k) p c table₀ table
 

@@ -5,8 +5,6 @@ use borrow.Author.Needs.{needs}
 use Rattle.graph.proofs.near.near_by.Statement.{statement}
 use Rattle.graph.proofs.near.near_by.Tie as tie
 
--- `near_by` reads the moves at a midpoint.
-
 returns : tie.Need-returns
 returns c = near-none _ _ (c .if1 .taken)
 
