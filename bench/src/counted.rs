@@ -81,7 +81,7 @@ fn change(scale: u8, floor: &Floor) {
     for _ in 0..CALLS {
         let cell = draw.below(floor.costs.len());
         let cost = if store[4 + cell] == 255 { 1 } else { 255 };
-        bytes::change(&mut store, cell, cost);
+        assert_eq!(bytes::change(&mut store, cell, cost), 0);
     }
 }
 
