@@ -17,7 +17,7 @@ PATH = re.compile(rf"(?<![\w./-])((?:{FOLDERS})/[\w./-]*[\w/-])")
 SPLIT = re.compile(r"[^\w·'-]+")
 
 # Documents that are not ours to mend, and quoted words that are nothing of this repository.
-GIVEN = ("docs/01-scope.md", "docs/src/")
+GIVEN = ("docs/01-scope.md", "docs/02-change-requests.md", "docs/src/")
 ELSEWHERE = {
     "cargo-web": "a package of Debian's",
 }
