@@ -52,12 +52,7 @@ impl Floor {
 
     /// The place of a floor number.
     pub fn place(&self, number: usize) -> Place {
-        let (sector, index) = (number / CELLS, number % CELLS);
-        let (column, row) = (sector / self.rows, sector % self.rows);
-        (
-            column * LENGTH + index % LENGTH,
-            row * LENGTH + index / LENGTH,
-        )
+        place_of(number, self.rows)
     }
 
     /// The floor number that a text names: by itself, or by x,y.
@@ -98,6 +93,16 @@ impl Floor {
         .filter_map(|(x, y)| Some((x?, y?)))
         .filter(move |&(x, y)| x < width && y < height)
     }
+}
+
+/// The place of a floor number, on a floor of so many rows of sectors.
+pub fn place_of(number: usize, rows: usize) -> Place {
+    let (sector, index) = (number / CELLS, number % CELLS);
+    let (column, row) = (sector / rows, sector % rows);
+    (
+        column * LENGTH + index % LENGTH,
+        row * LENGTH + index / LENGTH,
+    )
 }
 
 /// Column and row of the sector that a place lies in.

@@ -7,21 +7,42 @@ const HEAD: usize = 5;
 /// Bytes of a pair.
 const PAIR: usize = 4;
 
-/// The hall file of a floor: columns, rows, scale, count, floor numbers, costs.
+/// An entry of a hall file: a cell by its floor number, and its cost.
+#[derive(Debug, Clone, Copy, PartialEq, Eq)]
+pub struct Entry {
+    pub number: usize,
+    pub cost: u8,
+}
+
+/// The hall file of a floor.
 pub fn write(floor: &Floor) -> Vec<u8> {
-    let named: Vec<(usize, u8)> = (0..)
-        .zip(floor.costs.iter().copied())
-        .filter(|(_, cost)| *cost != UNNAMED)
+    let entries: Vec<Entry> = (0..)
+        .zip(&floor.costs)
+        .map(|(number, &cost)| Entry { number, cost })
+        .filter(|entry| entry.cost != UNNAMED)
         .collect();
-    let mut file = vec![floor.columns as u8, floor.rows as u8, floor.scale];
-    file.extend((named.len() as u16).to_le_bytes());
-    file.extend(
-        named
-            .iter()
-            .flat_map(|(number, _)| (*number as u16).to_le_bytes()),
-    );
-    file.extend(named.iter().map(|(_, cost)| cost));
+    let measures = [floor.columns as u8, floor.rows as u8, floor.scale];
+    write_entries(measures, &entries)
+}
+
+/// Columns, rows, scale; count, floor numbers, costs.
+pub fn write_entries(measures: [u8; 3], entries: &[Entry]) -> Vec<u8> {
+    let numbers = entries.iter().map(|entry| entry.number as u16);
+    let mut file = measures.to_vec();
+    file.extend((entries.len() as u16).to_le_bytes());
+    file.extend(numbers.flat_map(u16::to_le_bytes));
+    file.extend(entries.iter().map(|entry| entry.cost));
     file
+}
+
+/// The entries of a hall file, in its order, if its length fits its count.
+pub fn entries(file: &[u8]) -> Vec<Entry> {
+    let count = u16_at(file, 3);
+    let entry = |at| Entry {
+        number: u16_at(file, HEAD + 2 * at),
+        cost: file[HEAD + 2 * count + at],
+    };
+    (0..count).map(entry).collect()
 }
 
 /// A pair as `hallroute` reads it.

@@ -5,8 +5,8 @@ use std::io::{self, Read};
 
 use hallview::characters::shown;
 use hallview::drawing::{self, Drawn};
-use hallview::hall_file;
 use hallview::words::counted;
+use hallview::{hall_file, repeats};
 
 /// The most bytes of a drawing. The largest floor with all its rulings has a tenth of it.
 const MOST_DRAWN: u64 = 1 << 20;
@@ -48,14 +48,22 @@ fn bytes(name: &str, most: u64) -> Result<Vec<u8>, String> {
 
 /// Spare bytes are told, as `hallroute` does; the hall is drawn all the same.
 fn hall_in(name: &str, bytes: &[u8]) -> Result<Drawn, String> {
-    let read = hall_file::read(bytes).map_err(|number| {
-        let meaning = hall_file::meaning(number);
-        format!("refused {number}, {meaning} (a name that ends in .hall is read as a hall file)")
-    })?;
+    let read = hall_file::read(bytes)
+        .map_err(|number| format!("refused {number}, {}", reason(number, bytes)))?;
     if read.spare > 0 {
         let spare = counted(read.spare, "spare byte");
         let name = shown_name(name);
         eprintln!("{name}: cut: {spare} behind the pairs; a pair has 4 bytes");
     }
     Ok(Drawn::plain(read.floor, read.pairs))
+}
+
+/// Why the read call refuses a hall file. What is refused with 28 has the form of one, and is
+/// no drawing by mistake.
+fn reason(number: u8, bytes: &[u8]) -> String {
+    if number == 28 {
+        return repeats::told(bytes);
+    }
+    let meaning = hall_file::meaning(number);
+    format!("{meaning} (a name that ends in .hall is read as a hall file)")
 }

@@ -12,6 +12,7 @@ pub mod hall_file;
 pub mod no_route;
 pub mod plan;
 pub mod problem;
+pub mod repeats;
 pub mod scene;
 pub mod svg;
 pub mod symbols;

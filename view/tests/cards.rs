@@ -52,6 +52,8 @@ fn refused_hall_files() {
     assert_eq!(refused(&[1, 1, 1, 255, 255]), 13);
     assert_eq!(refused(&[1, 1, 1, 1, 0]), 14);
     assert_eq!(refused(&[1, 1, 1, 1, 0, 100, 0, 255]), 15);
+    assert_eq!(refused(&[1, 1, 1, 3, 0, 0, 0, 0, 0, 100, 0, 1, 1, 1]), 15);
+    assert_eq!(refused(&[1, 1, 1, 2, 0, 7, 0, 7, 0, 5, 5]), 28);
 }
 
 fn are_beside(a: Place, b: Place) -> bool {

@@ -7,16 +7,17 @@ use crate::symbols::{
     self, BLOCKED_SIGN, CLOSED_SIGN, CLOSING_SIGN, FIRST_STEPS, LATER_STEP, LEVEL_WINDOW, MIDPOINT,
     OPEN_SIGN, REACHED_SIGN, UPRIGHT_WINDOW,
 };
+use crate::words::state;
 
 pub fn draw(hall: &Hall, card: Option<&Card>) -> String {
-    let mut entries = vec![format!("{BLOCKED_SIGN} blocked")];
+    let mut entries = vec![format!("{BLOCKED_SIGN} {}", state(BLOCKED))];
     if hall.floor.places().any(|place| hall.is_narrow(place)) {
         entries.push(format!("{CLOSED_SIGN} closed by scaling"));
     }
-    entries.push(format!("{OPEN_SIGN} open at cost 1"));
+    entries.push(format!("{OPEN_SIGN} {}", state(UNNAMED)));
     let others = symbols::table(&hall.floor).into_iter();
     for (symbol, cost) in others.filter(|(_, cost)| ![UNNAMED, BLOCKED].contains(cost)) {
-        entries.push(format!("{symbol} open at cost {cost}"));
+        entries.push(format!("{symbol} {}", state(cost)));
     }
     entries.push(format!("{UPRIGHT_WINDOW}{LEVEL_WINDOW} window"));
     entries.push(format!("{MIDPOINT} its midpoint"));
