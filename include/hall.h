@@ -1,9 +1,9 @@
 /*
  * hall.h: portal routes over a sectored trolley floor, for C99 and C++11 and later.
  *
- * The calls are those of document 01, docs/01-scope.md, and hall_version; what each of them answers and
- * leaves in lent memory is proved equal to that document. Link with libhall.a (x86-64, System V calling
- * convention).
+ * The calls are those of document 01, docs/01-scope.md, with request 1 of document 02,
+ * docs/02-change-requests.md, and hall_version; what each of them answers and leaves in lent memory is
+ * proved equal to these documents. Link with libhall.a (x86-64, System V calling convention).
  *
  * THE FLOOR
  *
@@ -41,9 +41,9 @@
  *
  * NUMBERS
  *
- * Every call of document 01 answers a number: 0, or that of the first refusal that applies, in the
- * order that stands at the call. A refusal alters nothing that was lent, and the other values of its
- * answer are 0. hall_refusal_text, at the end, says what each number means.
+ * Every call but hall_version answers a number: 0, or that of the first refusal that applies, 1 to 28,
+ * in the order that stands at the call. A refusal alters nothing that was lent, and the other values of
+ * its answer are 0. hall_refusal_text, at the end, says what each number means.
  *
  * THREADS AND MEMORY
  *
@@ -65,7 +65,7 @@ extern "C" {
 /* The version of this header: one more whenever a call, an answer, a number, or a form of lent bytes
  * changes, so that a caller has something to do; docs/CHANGES.md says what. hall_version answers that
  * of the library: where the two differ, header and library do not belong together. */
-#define HALL_VERSION 1u
+#define HALL_VERSION 2u
 uint32_t hall_version(void);
 
 /* Sizes in bytes, from a hall's columns and rows: a list of base costs (one byte each, by floor
@@ -156,10 +156,10 @@ hall_measures_answer hall_plan(float size_x, float size_y, float unit, float rad
  * columns, rows and scale. base_length is HALL_CELLS(columns, rows), by the file's first two bytes.
  *
  * The file: bytes columns, rows, scale; a count, two bytes, low byte first; then count floor numbers,
- * two bytes each, low byte first; then count costs, one byte each. Unnamed cells cost 1; the later of
- * two entries for a cell holds.
+ * two bytes each, low byte first; then count costs, one byte each. Floor numbers stand in any order,
+ * each once: one that stands twice is refused, with equal costs too. Unnamed cells cost 1.
  *
- * Refusals: 10 to 16. */
+ * Refusals: 10 to 15, 28, 16. */
 hall_measures_answer hall_read_file(const uint8_t *file, size_t file_length,
                                     uint8_t *base, size_t base_length);
 
@@ -210,8 +210,8 @@ hall_route_answer hall_route(const uint8_t *store, size_t store_length,
 hall_windows_answer hall_windows(const uint8_t *store, size_t store_length, size_t sector,
                                  uint8_t *list, size_t list_length);
 
-/* What a number means, in document 01's words; before the colon the call that refuses, where it is one
- * alone. */
+/* What a number means, in the words of documents 01 and 02; before the colon the call that refuses,
+ * where it is one alone. */
 static inline const char *hall_refusal_text(uint8_t number)
 {
     switch (number) {
@@ -244,6 +244,7 @@ static inline const char *hall_refusal_text(uint8_t number)
     case 25: return "route: more steps than the lent list holds";
     case 26: return "windows: sector number too large";
     case 27: return "windows: list too short";
+    case 28: return "read file: a floor number stands twice in the file";
     default: return "no refusal has this number";
     }
 }
