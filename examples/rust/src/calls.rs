@@ -25,7 +25,7 @@ pub fn plan(d: Dimensions) -> Result<Measures, Refusal> {
     measured(bytes::plan([d.size_x, d.size_y, d.unit, d.radius]))
 }
 
-/// Fills a list of base costs from a hall file.
+/// Fills a list of base costs from a hall file, which names each cell at most once.
 pub fn read_file(file: &[u8], base: &mut [u8]) -> Result<Measures, Refusal> {
     measured(bytes::read_file(file, base))
 }

@@ -1,4 +1,5 @@
-//! Portal routes over a sectored trolley floor: the calls of document 01 (docs/01-scope.md), as libhall.a has them.
+//! Portal routes over a sectored trolley floor: the calls of document 01 (docs/01-scope.md) with request 1 of document 02
+//! (docs/02-change-requests.md), as libhall.a has them.
 //!
 //! What each call does stands in include/hall.h. Here a lent list is a slice, a number other than 0 is a [`Refusal`], which
 //! says what it means, and a [`Store`] owns its bytes. As in C, nothing is allocated but by [`Store::build`]. The module
@@ -19,7 +20,7 @@ pub use entries::{NO_WINDOW, Step, Window};
 pub use store::Store;
 
 /// The version of include/hall.h that this package declares; [`version`] is that of the library.
-pub const VERSION: u32 = 1;
+pub const VERSION: u32 = 2;
 /// No route has more steps: a list with this room is never refused.
 pub const MOST_STEPS: usize = 1_001;
 /// No sector has more windows.
@@ -34,12 +35,12 @@ pub fn version() -> u32 {
     declared::hall_version()
 }
 
-/// The number of a refused call, 1 to 27. Nothing that was lent has altered.
+/// The number of a refused call, 1 to 28. Nothing that was lent has altered.
 #[derive(Clone, Copy, PartialEq, Eq, Debug)]
 pub struct Refusal(pub u8);
 
 impl Refusal {
-    /// What the number means, in document 01's words.
+    /// What the number means, in the words of documents 01 and 02.
     pub fn text(self) -> &'static str {
         texts::text(self.0)
     }

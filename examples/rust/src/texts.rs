@@ -1,4 +1,4 @@
-//! What the numbers mean, in document 01's words: include/hall.h has the same texts.
+//! What the numbers mean, in the words of documents 01 and 02: include/hall.h has the same texts.
 
 pub fn text(number: u8) -> &'static str {
     match number {
@@ -32,6 +32,7 @@ pub fn text(number: u8) -> &'static str {
         25 => "route: more steps than the lent list holds",
         26 => "windows: sector number too large",
         27 => "windows: list too short",
+        28 => "read file: a floor number stands twice in the file",
         _ => "no refusal has this number",
     }
 }

@@ -1,5 +1,5 @@
 //! What a declaration can't say: that the library puts each value of an answer where the declaration reads it, and takes
-//! each argument as it is declared. Values that could be exchanged differ, and each of document 01's numbers is asked for.
+//! each argument as it is declared. Values that could be exchanged differ, and each number is asked for.
 
 use std::error::Error;
 
@@ -68,12 +68,15 @@ fn plan_refuses() {
 #[test]
 fn a_file_gives_measures_and_base_costs() {
     let mut base = [0; 600];
-    let file = [3, 2, 4, 2, 0, 7, 0, 0x2c, 0x01, 9, BLOCKED];
-    assert_eq!(hall::read_file(&file, &mut base), Ok(measures(3, 2, 4)));
     let mut owed = [1; 600];
     owed[7] = 9;
     owed[300] = BLOCKED;
-    assert_eq!(base, owed);
+    let file = [3, 2, 4, 2, 0, 7, 0, 0x2c, 0x01, 9, BLOCKED];
+    let turned = [3, 2, 4, 2, 0, 0x2c, 0x01, 7, 0, BLOCKED, 9];
+    for file in [file, turned] {
+        assert_eq!(hall::read_file(&file, &mut base), Ok(measures(3, 2, 4)));
+        assert_eq!(base, owed);
+    }
 }
 
 #[test]
@@ -85,6 +88,10 @@ fn files_are_refused() {
     assert_eq!(read(&[1, 1, 1, 0x11, 0x27]), Err(Refusal(13)));
     assert_eq!(read(&[1, 1, 1, 1, 0]), Err(Refusal(14)));
     assert_eq!(read(&[1, 1, 1, 1, 0, 100, 0, 1]), Err(Refusal(15)));
+    let repeated = [1, 1, 1, 2, 0, 7, 0, 7, 0, 5, 5];
+    assert_eq!(read(&repeated), Err(Refusal(28)));
+    let repeated_and_off = [1, 1, 1, 3, 0, 0, 0, 0, 0, 100, 0, 1, 1, 1];
+    assert_eq!(read(&repeated_and_off), Err(Refusal(15)));
     assert_eq!(read(&[1, 1, 1, 1, 0, 99, 0, 1]), Err(Refusal(16)));
 }
 

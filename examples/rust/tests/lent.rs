@@ -47,6 +47,18 @@ fn read_file_fills_its_list() {
 }
 
 #[test]
+fn a_repeated_cell_leaves_the_list() {
+    for [a, b, c] in [[7, 7, 9], [7, 9, 7], [9, 7, 7]] {
+        for cost in [5, BLOCKED] {
+            let file = [2, 1, 1, 3, 0, a, 0, b, 0, c, 0, 5, cost, cost];
+            let (answer, base) = lend(200, |base| hall::read_file(&file, base));
+            assert_eq!(answer, Err(Refusal(28)));
+            assert!(stays(&base));
+        }
+    }
+}
+
+#[test]
 fn build_writes_its_size() {
     let store = built();
     let (answer, longer) = lend(430, |store| hall::build(MEASURES, &[1; 200], store));

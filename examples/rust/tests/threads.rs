@@ -10,9 +10,20 @@ const MEASURES: Measures = Measures {
     scale: 9,
 };
 
-/// Builds the hall, changes a cell, and adds up leg and run of a route from corner to corner.
+/// The base costs of the longest file: it names every cell, the last one first, at cost 1.
+fn base() -> Vec<u8> {
+    let mut file = vec![10, 10, 9];
+    file.extend(10_000_u16.to_le_bytes());
+    file.extend((0..10_000_u16).rev().flat_map(u16::to_le_bytes));
+    file.extend([1; 10_000]);
+    let mut base = vec![0; 10_000];
+    assert_eq!(hall::read_file(&file, &mut base), Ok(MEASURES));
+    base
+}
+
+/// Reads and builds the hall, changes a cell, and adds up leg and run of a route from corner to corner.
 fn moves() -> u32 {
-    let mut store = Store::build(MEASURES, &[1; 10_000]).expect("the hall is accepted");
+    let mut store = Store::build(MEASURES, &base()).expect("the hall is accepted");
     store
         .change(5_050, BLOCKED)
         .expect("the change is accepted");
