@@ -9,6 +9,9 @@
 /* A hall file of 2 by 1 sectors, scale 1, with no entries: all cells cost 1. */
 static const uint8_t file[] = {COLUMNS, ROWS, 1, 0, 0};
 
+/* The same with two entries for cell 49, as where two files are merged. */
+static const uint8_t merged[] = {COLUMNS, ROWS, 1, 2, 0, 49, 0, 49, 0, 5, HALL_BLOCKED};
+
 static uint8_t base[HALL_CELLS(COLUMNS, ROWS)];
 static uint8_t store[HALL_STORE_SIZE(COLUMNS, ROWS)];
 static hall_step steps[HALL_MOST_STEPS];
@@ -37,13 +40,17 @@ static void plan(float size_x, float size_y, float unit, float radius)
         printf("plan %u %u %u\n", answer.columns, answer.rows, answer.scale);
 }
 
-/* Builds the hall of the file; 0, or the number of the refusal. */
-static uint8_t build(void)
+/* Builds the hall of a file; 0, or the number of the refusal, which is printed. */
+static uint8_t build(const uint8_t *bytes, size_t length)
 {
-    hall_measures_answer read = hall_read_file(file, sizeof file, base, sizeof base);
-    if (read.number != 0)
-        return read.number;
-    return hall_build(read.columns, read.rows, read.scale, base, sizeof base, store, sizeof store);
+    hall_measures_answer read = hall_read_file(bytes, length, base, sizeof base);
+    uint8_t number = read.number;
+    if (number == 0)
+        number = hall_build(read.columns, read.rows, read.scale, base, sizeof base, store,
+                            sizeof store);
+    if (number != 0)
+        printf("hall refused %u\n", number);
+    return number;
 }
 
 static void list_windows(size_t sector)
@@ -88,16 +95,12 @@ static void route(size_t source, size_t goal, size_t room)
 
 int main(void)
 {
-    uint8_t number;
-
     plan(20, 10, 1, 1);
     plan(20, 10, 1, 10);
 
-    number = build();
-    if (number != 0) {
-        printf("hall refused %u\n", number);
+    build(merged, sizeof merged);
+    if (build(file, sizeof file) != 0)
         return 1;
-    }
     list_windows(0);
     list_windows(2);
     route(0, 100, HALL_MOST_STEPS);

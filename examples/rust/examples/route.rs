@@ -15,11 +15,18 @@ fn plan(size_x: f32, size_y: f32, unit: f32, radius: f32) {
     }
 }
 
-/// Builds a hall of 2 by 1 sectors, scale 1, all cells at cost 1, from a hall file without entries.
-fn build() -> Result<Store, Refusal> {
+/// A hall file of 2 by 1 sectors, scale 1, with no entries: all cells cost 1.
+const FILE: [u8; 5] = [2, 1, 1, 0, 0];
+
+/// The same with two entries for cell 49, as where two files are merged.
+const MERGED: [u8; 11] = [2, 1, 1, 2, 0, 49, 0, 49, 0, 5, BLOCKED];
+
+/// Builds the hall of a file; a refusal is printed.
+fn build(file: &[u8]) -> Result<Store, Refusal> {
     let mut base = [0; 200];
-    let measures = hall::read_file(&[2, 1, 1, 0, 0], &mut base)?;
-    Store::build(measures, &base)
+    hall::read_file(file, &mut base)
+        .and_then(|measures| Store::build(measures, &base))
+        .inspect_err(|refusal| println!("hall refused {}", refusal.0))
 }
 
 fn list_windows(store: &Store, sector: usize) {
@@ -59,7 +66,8 @@ fn main() -> Result<(), Refusal> {
     plan(20.0, 10.0, 1.0, 1.0);
     plan(20.0, 10.0, 1.0, 10.0);
 
-    let mut store = build()?;
+    assert_eq!(build(&MERGED), Err(Refusal(28)));
+    let mut store = build(&FILE)?;
     list_windows(&store, 0);
     list_windows(&store, 2);
     route(&store, 0, 100, MOST_STEPS);
