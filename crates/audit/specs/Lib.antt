@@ -1,5 +1,7 @@
 pub mod Starred
 pub mod Further
+pub mod Files
+pub mod FileOrder
 pub mod Ties
 pub mod Borders
 pub mod Crossings

@@ -4,13 +4,12 @@ use mathlib.Core.List.{List}
 use Prim.Native.Nat.{ℕ, _≤_, _<_}
 use lib.ListN.{length}
 use borrow.Author.Tests.{ltb-false}
-use Rattle.laws.specs.Ladder.{passed}
+use Rattle.laws.specs.Ladder.{passed, not-different}
 use Rattle.model.specs.declared.Measures.{Measures}
 use Rattle.model.specs.Sectors.{cells}
 use Rattle.model.specs.Accepted.{accepted}
 use Rattle.model.specs.Store.{sizeOf, written}
 use Rattle.model.specs.Calls.{ifAccepted, buildNumber, built, buildInto}
-use Rattle.store.specs.Checks.{not-different}
 use Rattle.builder.specs.Parts.{Buildable}
 use Rattle.model.specs.Refusals.{none, not-accepted}
 

@@ -12,7 +12,7 @@ use Rattle.hall_c.specs.declared.WindowsAnswer.{WindowsAnswer}
 
 -- HALL_VERSION of include/hall.h
 abbrev pub version : ℕ
-version = 1
+version = 2
 
 abbrev pub dimensions : Float → Float → Float → Float → Dimensions
 dimensions x y unit radius = record { «size_x» = x; «size_y» = y; unit = unit; radius = radius }

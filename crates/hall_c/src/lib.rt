@@ -99,7 +99,7 @@ fn flat_windows(answer: Listed) -> WindowsAnswer
 pub extern "C" fn hall_version() -> u32
     ensures { λ r. ⌜ r ≡ version ⌝ }
 {
-    1
+    2
 }
 
 // A hall's columns, rows and scale from its sizes, unit and radius.

@@ -1,15 +1,14 @@
 -- The rungs of the plan's ladder, for `search (ladder, rungs)`: whole numbers that are known up to 16, and the answer by its number.
 use mathlib.Core.Path.{_≡_, refl, sym, ap, ap₂, _∙_}
 use mathlib.Core.Bool.{Bool, true, false, _||_}
-use Prim.Native.Nat.{ℕ, zero, suc, _≤_, _<_, min}
-use native.Mathlib.Nat.{not-suc-le-zero}
+use Prim.Native.Nat.{ℕ, _≤_, _<_, min}
 use native.Mathlib.Omega.{arith}
 use lib.Dec.{leb, ltb, eqb, lit<}
 use borrow.Author.Tests.{ltb-true, ltb-false, lt-ltb, le-ltb, le-leb, lt-leb, eq-eqb, ne-eqb}
 use Rattle.laws.specs.Search.{neither}
 use Rattle.model.specs.declared.Measured.the-variants.{Accepted}
-use Rattle.model.specs.Calls.{orElse, measured}
-use Rattle.model.specs.Refusals.{refused}
+use Rattle.model.specs.Calls.{measured}
+use Rattle.model.specs.Refusals.{earlier, later, refused}
 
 -- ---- a number k by s, which is k up to 16
 ten : (k s : ℕ) → s ≡ min k 16 → ltb 10 k ≡ ltb 10 s
@@ -35,15 +34,6 @@ pub above : (t : Bool) (k l r s : ℕ) → r ≡ min k 16 → s ≡ min l 16 →
 above t k l r s e h f = ap₂ (λ (a b : Bool). a || b) (ten k r e) (ten l s h) ∙ f
 
 -- ---- the answer by its number
-pub earlier : (n v rest : ℕ) → 0 < n → n ≡ v → n ≡ orElse v rest
-unfolding orElse
-earlier zero v rest p e = absurd (not-suc-le-zero p)
-earlier (suc n) v rest p e = ap (λ (k : ℕ). orElse k rest) e
-
-pub later : (n v rest r : ℕ) → r ≡ v → r ≤ 0 → n ≡ rest → n ≡ orElse v rest
-unfolding orElse
-later n v rest r e l h = let z : v ≡ 0 = omega arith in simp z h
-
 pub accepted : (n a b c k l m : ℕ) → a ≡ min k 16 → b ≡ min l 16 → c ≡ min m 16 → ltb 10 a || ltb 10 b ≡ false → c < 10 → 0 ≡ n
     → Accepted (record { columns = a; rows = b; scale = c }) ≡ measured n (record { columns = k; rows = l; scale = m })
 unfolding measured

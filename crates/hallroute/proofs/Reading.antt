@@ -1,8 +1,10 @@
 -- How much of the input is the hall file, and what reading and building it leave.
-use mathlib.Core.Path.{_≡_, refl, ap, _∙_}
+use mathlib.Core.Path.{_≡_, refl, sym, ap, _∙_}
+use mathlib.Core.Bool.{Bool, true, false}
 use mathlib.Core.List.{List}
 use Prim.Native.Nat.{ℕ, zero, suc, _+_, _*_, _≤_, _<_}
 use native.Mathlib.Omega.{arith}
+use lib.Dec.{ltb}
 use lib.ListN.{length}
 use borrow.Author.Tests.{lt-ltb, le-ltb, eq-eqb}
 use Rattle.laws.specs.Ladder.{refuse}
@@ -11,10 +13,10 @@ use Rattle.model.specs.declared.Measured.the-variants.{Accepted, Refused}
 use Rattle.model.specs.Sectors.{cells}
 use Rattle.model.specs.Store.{u16At, measuresAt, sizeOf, baseIn}
 use Rattle.model.specs.Accepted.{many-sectors, good-sectors, good-scale}
-use Rattle.model.specs.Calls.{measured, ifAccepted, readNumber, readAnswer, readInto, buildNumber, buildInto}
+use Rattle.model.specs.Calls.{measured, ifAccepted, formNumber, readNumber, readAnswer, readInto, buildNumber, buildInto}
 use Rattle.model.specs.Hallroute.{fileSize}
-use Rattle.store.specs.Checks.{readable}
-use Rattle.model.specs.Refusals.{not-accepted}
+use Rattle.model.specs.FileCosts.{readable}
+use Rattle.model.specs.Refusals.{refused-first, not-accepted}
 use Rattle.io.specs.Counts.{Counts}
 use Rattle.io.proofs.Counting.{counts}
 use Rattle.hallroute.specs.Opening.{fileNumber, openInto}
@@ -35,20 +37,30 @@ module _ (input : List ℕ) where
     size-counted h = (rw (le-ltb (length input) 5 head) (omega arith), counts _ _ h)
 
 -- ---- how many base costs it is read into
+either-number : (b : Bool) (n m : ℕ) → 0 < refuse b (suc n) (suc m)
+unfolding refuse
+either-number true n m = omega arith
+either-number false n m = omega arith
+
 module _ (file : List ℕ) where
+  -- a file of bad form is refused whatever the list
+  bad-form : (size : ℕ) → 0 < formNumber file → readNumber file size ≡ fileNumber file
+  unfolding readNumber
+  bad-form size h = sym (refused-first (formNumber file) _ h) ∙ refused-first (formNumber file) _ h
+
   pub base-head : length file < 5 → readNumber file 0 ≡ fileNumber file
-  unfolding readNumber refuse
-  base-head h = rw (lt-ltb (length file) 5 h)
+  unfolding formNumber refuse
+  base-head h = bad-form 0 (rw (lt-ltb (length file) 5 h) (omega arith))
 
   module _ {m : Measures} {size : ℕ} (read : m ≡ measuresAt file) (all : size ≡ cells m) where
     pub base-all : readNumber file size ≡ fileNumber file
     base-all = ap (readNumber file) (all ∙ ap cells read)
 
     pub base-large : 10000 < size → readNumber file 0 ≡ fileNumber file
-    unfolding readNumber refuse
+    unfolding formNumber refuse
     base-large h =
         let all : size ≡ cells (measuresAt file) = all ∙ ap cells read in
-        rw (many-sectors (measuresAt file) (omega arith))
+        bad-form 0 (rw (many-sectors (measuresAt file) (omega arith)) (either-number (ltb (length file) 5) 9 10))
 
 -- ---- what reading it and building its hall leave
 accepted-is : (n : ℕ) {m k : Measures} → Accepted k ≡ measured n m → (n ≡ 0) × (k ≡ m)
@@ -87,7 +99,7 @@ module _ (file base st : List ℕ) (same : readNumber file (length base) ≡ fil
   build-0 : buildNumber (measuresAt file) filled st ≡ 0
   unfolding buildNumber refuse
   build-0 =
-      let ok = readable file (length base) no .measures in
+      let ok = readable file (length base) no .form .measures in
       rw (good-sectors ok, good-scale ok, eq-eqb (length filled) (cells (measuresAt file)) (kept ∙ size), le-ltb (length st) (sizeOf (measuresAt file)) (omega arith))
 
   pub file-built : {r : ℕ} {out : List ℕ} → r ≡ buildNumber m filled st → out ≡ buildInto m filled st → (r ≡ fileNumber file) × (out ≡ openInto file st)

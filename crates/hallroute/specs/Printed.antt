@@ -5,10 +5,9 @@ use mathlib.Core.Path.{_≡_, refl, sym, ap, _∙_}
 use mathlib.Core.Bool.{false}
 use mathlib.Core.List.{List, [], _∷_, _++_, append-nil}
 use lib.Dec.{ltb}
-use lib.ListN.{length, take, drop, replicate, length-append, length-set, length-replicate}
+use lib.ListN.{length, take, drop, length-append}
 use lib.Seq.{drop-nil}
 use borrow.Author.Tests.{lt-ltb, le-ltb}
-use Rattle.laws.specs.Fold.{run-length}
 use Rattle.laws.specs.Search.{any}
 use Rattle.laws.specs.Ladder.{refuse}
 use Rattle.laws.specs.Table.{length-tabulate}
@@ -18,7 +17,7 @@ use Rattle.model.specs.Sectors.{sectors, cells}
 use Rattle.model.specs.Windows.{markOf, marksOf}
 use Rattle.model.specs.Halls.{Hall}
 use Rattle.model.specs.ScaleLengths.{length-floor}
-use Rattle.model.specs.Store.{measuresAt, sizeOf, marksIn, decode, encode, written, entryCount, putEntry, baseIn}
+use Rattle.model.specs.Store.{measuresAt, sizeOf, marksIn, decode, encode, written, costIn, baseIn}
 use Rattle.model.specs.StoreLayout.{Laid, length-encode, decode-written}
 use Rattle.model.specs.Accepted.{badSectors, badScale}
 use Rattle.model.specs.Calls.{badMark, ifAccepted, checkNumber, built}
@@ -71,9 +70,8 @@ module _ (h : Hall) (laid : Laid h) where
 
 -- ---- the hall of a file
 length-base : (file : List ℕ) (size : ℕ) → length (baseIn file size) ≡ size
-unfolding baseIn putEntry
-length-base file size =
-    run-length (putEntry file (entryCount file)) (λ k xs. length-set xs _ _) (entryCount file) (replicate size 1) ∙ length-replicate size 1
+unfolding baseIn
+length-base file size = length-tabulate (costIn file) size 0
 
 file-laid : (file : List ℕ) → Laid (fileHall file)
 unfolding built marksOf

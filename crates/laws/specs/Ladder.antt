@@ -1,8 +1,10 @@
 -- A ladder of refusals: the first test that holds gives its number, and 0 says that none does.
 use mathlib.Core.Path.{_≡_, refl, sym, _∙_}
-use mathlib.Core.Bool.{Bool, true, false, false≢true}
+use mathlib.Core.Bool.{Bool, true, false, not, false≢true}
 use Prim.Native.Nat.{ℕ, suc}
 use native.Mathlib.Omega.{arith}
+use lib.Dec.{eqb}
+use borrow.Author.Tests.{eqb-true, not-false}
 
 -- the number n where the test holds, else what the rest gives
 unfoldable pub refuse : Bool → ℕ → ℕ → ℕ
@@ -14,6 +16,10 @@ pub passed : (b : Bool) (n rest : ℕ) → refuse b (suc n) rest ≡ 0 → (b �
 unfolding refuse
 passed true n rest e = absurd (omega arith)
 passed false n rest e = (refl, e)
+
+-- two numbers that a refusal did not find different
+pub not-different : (a b : ℕ) → not (eqb a b) ≡ false → a ≡ b
+not-different a b e = eqb-true a b (not-false (eqb a b) e)
 
 -- For `search (needs, ladder) depth N` at each return of the function that climbs it: each test is the flag that a callee ensures.
 pub refuse-here : (b : Bool) (n rest : ℕ) → b ≡ true → n ≡ refuse b n rest

@@ -8,6 +8,7 @@ pub mod Ladder
 pub mod Region
 pub mod Table
 pub mod Each
+pub mod Puts
 pub mod Graph
 pub mod FirstLeast
 pub mod Winner

@@ -9,7 +9,7 @@ use native.Mathlib.Decide.{ℕ-discrete}
 use native.Mathlib.Omega.{arith}
 use lib.Dec.{ltb}
 use borrow.Author.Count.{below-more}
-use borrow.Author.Tests.{lt-ltb, le-ltb, ltb-false}
+use borrow.Author.Tests.{lt-ltb, le-ltb, ltb-true, ltb-false}
 use Rattle.laws.specs.Fold.{pick, pick-keeps, bit}
 use Rattle.laws.specs.Members.{In}
 
@@ -91,6 +91,19 @@ first-before p (suc n) k l = go (p 0) refl k l (λ j m. first-before (λ i. p (s
     go false e zero l rest = e
     go false e (suc k) l rest = rest k (le-of-suc-le-suc l)
 
+-- the first that passes does pass
+first-passes : (p : ℕ → Bool) (n : ℕ) → first p n < n → p (first p n) ≡ true
+unfolding first
+first-passes p zero l = absurd (not-suc-le-zero l)
+first-passes p (suc n) l = go (p 0) refl l (λ m. first-passes (λ i. p (suc i)) n m)
+  where
+    rest : ℕ
+    rest = first (λ i. p (suc i)) n
+
+    go : (b : Bool) → p 0 ≡ b → pick b 0 (suc rest) < suc n → (rest < n → p (suc rest) ≡ true) → p (pick b 0 (suc rest)) ≡ true
+    go true e m more = e
+    go false e m more = more (le-of-suc-le-suc m)
+
 -- ---- any
 any-yes : (p : ℕ → Bool) (n k : ℕ) → k < n → ((j : ℕ) → j < k → p j ≡ false) → p k ≡ true → true ≡ any p n
 unfolding any
@@ -103,6 +116,10 @@ any-no p n k l before = rw (first-none p n (λ j m. before j (omega arith))) (sy
 pub any-none : (p : ℕ → Bool) (n k : ℕ) → any p n ≡ false → k < n → p k ≡ false
 unfolding any
 any-none p n k e l = first-before p n k (omega (arith, ltb-false (first p n) n e))
+
+pub any-some : (p : ℕ → Bool) (n : ℕ) → any p n ≡ true → (first p n < n) × (p (first p n) ≡ true)
+unfolding any
+any-some p n e = let l = ltb-true (first p n) n e in (l, first-passes p n l)
 
 pub any-has : (p : ℕ → Bool) (n k : ℕ) → k < n → p k ≡ true → any p n ≡ true
 any-has p n k l now = go (any p n) refl

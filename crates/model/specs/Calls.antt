@@ -30,7 +30,7 @@ use Rattle.model.specs.Halls.{Hall, markAt}
 use Rattle.model.specs.Change.{changed, exceeds}
 use Rattle.model.specs.Route.{Found, none, routeOf}
 use Rattle.model.specs.Route as found-as
-use Rattle.model.specs.Store.{measuresAt, fourthAt, sizeOf, marksIn, decode, written, entryCount, entryNumber, baseIn}
+use Rattle.model.specs.Store.{measuresAt, fourthAt, sizeOf, marksIn, decode, written, entryCount, entryNumber, entryNames, baseIn}
 use Rattle.model.specs.Account.{Call, change}
 use Rattle.model.specs.Account as call-as
 
@@ -86,20 +86,32 @@ unfoldable pub planAnswer : Dimensions → Measured
 planAnswer d = measured (planNumber d) (planMeasures d)
 
 -- ---- read file
--- 15 "a floor number too large"
-unfoldable pub entryOff : List ℕ → ℕ → Bool
-entryOff file k = leb (cells (measuresAt file)) (entryNumber file k)
-
--- 10 "under 5 bytes", 11, 12, 13 "count above 10,000", 14 "length not 5 + 3 × count", 15, 16 "list length not 100 × sectors"
-unfoldable pub readNumber : List ℕ → ℕ → ℕ
-readNumber file size =
+-- 10 "under 5 bytes", 11, 12, 13 "count above 10,000", 14 "length not 5 + 3 × count"
+unfoldable pub formNumber : List ℕ → ℕ
+formNumber file =
     refuse (ltb (length file) 5) 10
     (refuse (badSectors (measuresAt file)) 11
     (refuse (badScale (measuresAt file)) 12
     (refuse (ltb 10000 (entryCount file)) 13
-    (refuse (not (eqb (length file) (5 + 3 * entryCount file))) 14
-    (refuse (any (entryOff file) (entryCount file)) 15
-    (refuse (not (eqb size (cells (measuresAt file)))) 16 0))))))
+    (refuse (not (eqb (length file) (5 + 3 * entryCount file))) 14 0))))
+
+-- 15 "a floor number too large"
+unfoldable pub entryOff : List ℕ → ℕ → Bool
+entryOff file k = leb (cells (measuresAt file)) (entryNumber file k)
+
+-- 02, request 1: 28 "when a floor number stands twice in the file", here at place k and at one before it
+unfoldable pub entryAgain : List ℕ → ℕ → Bool
+entryAgain file k = any (entryNames file (entryNumber file k)) k
+
+-- 15, 28 "after 15 and before 16", 16 "list length not 100 × sectors"
+unfoldable pub entriesNumber : List ℕ → ℕ → ℕ
+entriesNumber file size =
+    refuse (any (entryOff file) (entryCount file)) 15
+    (refuse (any (entryAgain file) (entryCount file)) 28
+    (refuse (not (eqb size (cells (measuresAt file)))) 16 0))
+
+unfoldable pub readNumber : List ℕ → ℕ → ℕ
+readNumber file size = orElse (formNumber file) (entriesNumber file size)
 
 unfoldable pub readAnswer : List ℕ → ℕ → Measured
 readAnswer file size = measured (readNumber file size) (measuresAt file)

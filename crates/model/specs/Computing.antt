@@ -27,9 +27,9 @@ use Rattle.model.specs.Change.{nearby, isThere, forNearby, resetSector, 
 use Rattle.model.specs.LeastPath.{nodeRank, keysTo, leastPath}
 use Rattle.model.specs.Route.{starts, ends, endOf, linkedPair, runOf, routePairs, chosenPair, stepAt, stepsOf, throughPair, throughPortals, oneStep, routeOf}
 use Rattle.model.specs.Account.{fed, accountAfter, accountCosts, borderMoves}
-use Rattle.model.specs.Store.{u16At, marksIn, decode, markBytes, encode, written, putEntry, baseIn}
+use Rattle.model.specs.Store.{u16At, marksIn, decode, markBytes, encode, written, entryNames, costIn, baseIn}
 use Rattle.model.specs.Accepted.{badSectors, badScale}
-use Rattle.model.specs.Calls.{orElse, ifAccepted, measured, valueNumber, measureNumber, planNumber, planAnswer, entryOff, readNumber, readAnswer, readInto}
+use Rattle.model.specs.Calls.{orElse, ifAccepted, measured, valueNumber, measureNumber, planNumber, planAnswer, formNumber, entryOff, entryAgain, entriesNumber, readNumber, readAnswer, readInto}
 use Rattle.model.specs.Calls.{buildNumber, built, buildInto, badMark, checkNumber, alterNumber, changeNumber, changeInto}
 use Rattle.model.specs.Calls.{stepList, foundNumber, routeNumber, routed, routeAnswer, routeSteps, routeFlat}
 use Rattle.model.specs.Calls.{windowsFrom, flatWindows, windowsNumber, listed, windowsAnswer, windowsFlat, storeAfterCall, storeAfter}
@@ -72,11 +72,11 @@ unfolding starts ends endOf linkedPair runOf routePairs chosenPair stepAt stepsO
 in-route = tt
 
 unfoldable in-bytes : Unit {0}
-unfolding fed accountAfter accountCosts borderMoves u16At marksIn decode markBytes encode written putEntry baseIn
+unfolding fed accountAfter accountCosts borderMoves u16At marksIn decode markBytes encode written entryNames costIn baseIn
 in-bytes = tt
 
 unfoldable in-calls : Unit {0}
-unfolding orElse ifAccepted measured valueNumber measureNumber planNumber planAnswer entryOff readNumber readAnswer readInto
+unfolding orElse ifAccepted measured valueNumber measureNumber planNumber planAnswer formNumber entryOff entryAgain entriesNumber readNumber readAnswer readInto
 in-calls = tt
 
 unfoldable in-stores : Unit {0}

@@ -37,6 +37,7 @@ pub mod Store
 pub mod StoreLayout
 pub mod Calls
 pub mod Refusals
+pub mod FileCosts
 pub mod FewSteps
 pub mod Answers
 pub mod Hallroute

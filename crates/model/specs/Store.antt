@@ -1,8 +1,11 @@
 -- 01, "Hall store and hall file": the bytes.
 use Prim.Native.Nat.{ℕ, _+_, _*_, _/_, _%_}
+use mathlib.Core.Bool.{Bool}
 use mathlib.Core.List.{List, [], _∷_, _++_}
-use lib.ListN.{getD, drop, set, replicate}
-use Rattle.laws.specs.Fold.{run}
+use lib.Dec.{ltb, eqb}
+use lib.ListN.{getD, drop}
+use Rattle.laws.specs.Fold.{pick}
+use Rattle.laws.specs.Search.{first}
 use Rattle.laws.specs.Region.{region}
 use Rattle.laws.specs.Table.{tabulate}
 use Rattle.model.specs.declared.Measures.{Measures}
@@ -70,9 +73,18 @@ entryCount file = u16At file 3
 abbrev pub entryNumber : List ℕ → ℕ → ℕ
 entryNumber file k = u16At file (5 + 2 * k)
 
-unfoldable pub putEntry : List ℕ → ℕ → ℕ → List ℕ → List ℕ
-putEntry file count k xs = set xs (entryNumber file k) (getD file (5 + 2 * count + k) 0)
+abbrev pub entryCost : List ℕ → ℕ → ℕ
+entryCost file k = getD file (5 + 2 * entryCount file + k) 0
 
--- "Unnamed cells cost 1; the later of two entries holds"
+-- whether entry k names cell n
+unfoldable pub entryNames : List ℕ → ℕ → ℕ → Bool
+entryNames file n k = eqb (entryNumber file k) n
+
+-- 01, "Unnamed cells cost 1"; 02, request 1, "01's rule about the later entry ends". A cell has the cost of the entry that names it; an accepted file has no second one, and FileCosts shows that no order comes in.
+unfoldable pub costIn : List ℕ → ℕ → ℕ
+costIn file n =
+    let k = first (entryNames file n) (entryCount file) in
+    pick (ltb k (entryCount file)) (entryCost file k) 1
+
 unfoldable pub baseIn : List ℕ → ℕ → List ℕ
-baseIn file size = run (putEntry file (entryCount file)) (entryCount file) (replicate size 1)
+baseIn file size = tabulate (costIn file) size 0

@@ -1,21 +1,21 @@
--- What the checks of a store and of a file show, once they are passed.
+-- What the check of a store shows, once it is passed.
 use mathlib.Core.Path.{_≡_, sym, ap, _∙_}
 use mathlib.Core.Bool.{Bool, true, false, not, false≢true}
 use mathlib.Core.List.{List}
 use Prim.Native.Nat.{ℕ, _+_, _*_, _/_, _%_, _≤_, _<_}
 use native.Mathlib.Omega.{arith}
 use lib.Dec.{ltb, eqb}
-use lib.ListN.{length, getD, replicate}
-use borrow.Author.Tests.{ltb-false, leb-false, eqb-true, not-false}
-use Rattle.laws.specs.Fold.{pick, run}
+use lib.ListN.{length, getD}
+use borrow.Author.Tests.{ltb-false}
+use Rattle.laws.specs.Fold.{pick}
 use Rattle.laws.specs.Search.{any, any-none}
 use Rattle.laws.specs.Ladder.{passed}
 use Rattle.model.specs.declared.Measures.{Measures}
 use Rattle.model.specs.Cells.{sideAt}
 use Rattle.model.specs.Sectors.{sectors, cells, hasBeyond}
 use Rattle.model.specs.Accepted.{badSectors, badScale, Accepted, accepted}
-use Rattle.model.specs.Store.{measuresAt, sizeOf, marksIn, entryCount, entryNumber, putEntry, baseIn}
-use Rattle.model.specs.Calls.{badMark, checkNumber, entryOff, readNumber}
+use Rattle.model.specs.Store.{measuresAt, sizeOf, marksIn}
+use Rattle.model.specs.Calls.{badMark, checkNumber}
 
 -- What a test found of measures that were read from bytes: for the search at each return of a ladder.
 module _ (bytes : List ℕ) (m : Measures) (read : m ≡ measuresAt bytes) (r t : Bool) where
@@ -37,7 +37,6 @@ module _ (bytes : List ℕ) (m : Measures) (read : m ≡ measuresAt bytes) (r t 
   pub marks-found : r ≡ any (badMark m (marksIn m bytes)) (sectors m * 4) → r ≡ t → any (badMark (measuresAt bytes) (marksIn (measuresAt bytes) bytes)) (sectors (measuresAt bytes) * 4) ≡ t
   marks-found = found (λ n. any (badMark n (marksIn n bytes)) (sectors n * 4))
 
--- ---- a store
 -- a store that passes
 pub record Checked (st : List ℕ) : Type 0 where
   pub measures : Accepted (measuresAt st)
@@ -73,48 +72,3 @@ checked st e =
       small-marks = λ k h. mark-small (hasBeyond m (k / 4) (sideAt (k % 4))) (getD (marksIn m st) k 0) (good k h);
       no-marks = λ k h n. mark-none (hasBeyond m (k / 4) (sideAt (k % 4))) (getD (marksIn m st) k 0) n (good k h);
     }
-
--- ---- a file
--- two numbers that a refusal did not find different
-pub not-different : (a b : ℕ) → not (eqb a b) ≡ false → a ≡ b
-not-different a b e = eqb-true a b (not-false (eqb a b) e)
-
-pub whole-file : (file : List ℕ) (r : Bool) → r ≡ not (eqb (length file) (5 + 3 * entryCount file)) → r ≡ false → 5 + 3 * entryCount file ≤ length file
-whole-file file r e h = omega (arith, not-different (length file) (5 + 3 * entryCount file) (sym e ∙ h))
-
--- a file that is read
-pub record Readable (file : List ℕ) (size : ℕ) : Type 0 where
-  pub measures : Accepted (measuresAt file)
-  pub head : 5 ≤ length file
-  pub whole : length file ≡ 5 + 3 * entryCount file
-  pub on : any (entryOff file) (entryCount file) ≡ false
-  pub room : size ≡ cells (measuresAt file)
-
-pub readable : (file : List ℕ) (size : ℕ) → readNumber file size ≡ 0 → Readable file size
-unfolding readNumber
-readable file size e =
-    let m = measuresAt file in
-    let a = passed _ 9 _ e in
-    let b = passed _ 10 _ (a .1) in
-    let c = passed _ 11 _ (b .1) in
-    let d = passed _ 12 _ (c .1) in
-    let f = passed _ 13 _ (d .1) in
-    let g = passed _ 14 _ (f .1) in
-    let h = passed _ 15 _ (g .1) in
-    record {
-      measures = accepted m (b .0) (c .0);
-      head = ltb-false (length file) 5 (a .0);
-      whole = not-different (length file) (5 + 3 * entryCount file) (f .0);
-      on = g .0;
-      room = not-different size (cells m) (h .0);
-    }
-
--- an entry of a file none of whose floor numbers is too large
-pub entry-on : (file : List ℕ) (n k : ℕ) → any (entryOff file) n ≡ false → k < n → entryNumber file k < cells (measuresAt file)
-unfolding entryOff
-entry-on file n k e h = leb-false (cells (measuresAt file)) (entryNumber file k) (any-none (entryOff file) n k e h)
-
--- a list that was filled with 1 and took the entries
-pub filled-from : (file : List ℕ) (size n : ℕ) {ones out : List ℕ} → n ≡ entryCount file → ones ≡ replicate size 1 → out ≡ run (putEntry file n) n ones → out ≡ baseIn file size
-unfolding baseIn
-filled-from file size n en eo e = rw (e, en, eo)

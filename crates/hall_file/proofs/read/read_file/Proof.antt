@@ -13,7 +13,7 @@ measures-at-requires : tie.Need-measures-at-requires
 measures-at-requires c κs =
     let f = c .before .before .before .before in
     let args = f .before .before .before .before .args in
-    omega (arith, read-on (now (args .file)) (now (args .base)) _ (f .before .read-number .ensures) (f .if1 .left) .head)
+    omega (arith, read-on (now (args .file)) (now (args .base)) _ (f .before .read-number .ensures) (f .if1 .left) .form .head)
 
 returns-2 : tie.Need-returns-2
 returns-2 c =

@@ -1,63 +1,54 @@
 -- `read_number` climbs the ladder of the refusals of a file: each return goes by what the tests before it found.
-use borrow.Author.Tests.{lt-ltb, le-ltb}
+use mathlib.Core.Path.{_∙_}
 use Rattle.laws.specs.Ladder.{refuse-here, refuse-past, flag}
-use Rattle.model.specs.Calls.{readNumber}
-use Rattle.store.specs.Checks.{whole-file, sectors-found, scale-found, size-found}
+use Rattle.model.specs.Calls.{entriesNumber, readNumber}
+use Rattle.model.specs.Refusals.{earlier, later}
+use Rattle.hall_file.proofs.Reading.{form-whole, form-measures, form-head}
+use Rattle.store.specs.Checks.{size-found}
 use borrow.Author.Needs.{needs}
 use Rattle.hall_file.proofs.read.read_number.Statement.{statement}
 use Rattle.hall_file.proofs.read.read_number.Tie as tie
 
 returns : tie.Need-returns
 unfolding readNumber
-returns c = search (needs, refuse-here, lt-ltb)
-
-returns-2 : tie.Need-returns-2
-unfolding readNumber
-returns-2 c = search (needs, refuse-here, refuse-past, le-ltb, sectors-found) depth 20
-
-returns-3 : tie.Need-returns-3
-unfolding readNumber
-returns-3 c = search (needs, refuse-here, refuse-past, le-ltb, sectors-found, scale-found) depth 20
-
-returns-4 : tie.Need-returns-4
-unfolding readNumber
-returns-4 c = search (needs, refuse-here, refuse-past, le-ltb, sectors-found, scale-found, flag) depth 20
-
-returns-5 : tie.Need-returns-5
-unfolding readNumber
-returns-5 c = search (needs, refuse-here, refuse-past, le-ltb, sectors-found, scale-found, flag) depth 20
+returns c = search (needs, earlier)
 
 any-off-requires : tie.Need-any-off-requires
-any-off-requires c κs = whole-file _ _ (c .before .wrong-length .ensures) (c .if5 .left)
+any-off-requires c κs = search (needs, form-whole)
 
-returns-6 : tie.Need-returns-6
-unfolding readNumber
-returns-6 c = search (needs, refuse-here, refuse-past, le-ltb, sectors-found, scale-found, flag) depth 20
+returns-2 : tie.Need-returns-2
+unfolding readNumber entriesNumber
+returns-2 c = search (needs, later, refuse-here, flag)
 
-returns-7 : tie.Need-returns-7
-unfolding readNumber
-returns-7 c = search (needs, refuse-here, refuse-past, le-ltb, sectors-found, scale-found, size-found, flag) depth 20 fits 20000
+any-again-requires : tie.Need-any-again-requires
+any-again-requires c κs = search (needs, form-whole, form-measures, flag)
 
-returns-8 : tie.Need-returns-8
-unfolding readNumber
-returns-8 c = search (needs, refuse-past, le-ltb, sectors-found, scale-found, size-found, flag) depth 20 fits 20000
+returns-3 : tie.Need-returns-3
+unfolding readNumber entriesNumber
+returns-3 c = search (needs, later, refuse-here, refuse-past, flag)
+
+measures-at-requires : tie.Need-measures-at-requires
+measures-at-requires c κs = search (needs, form-head)
+
+returns-4 : tie.Need-returns-4
+unfolding readNumber entriesNumber
+returns-4 c = search (needs, later, refuse-here, refuse-past, size-found, flag)
+
+returns-5 : tie.Need-returns-5
+unfolding readNumber entriesNumber
+returns-5 c = search (needs, later, refuse-past, size-found, flag)
 
 pub read-number-spec : {M : Type 1} → statement M
 read-number-spec =
     tie.close
     (tie.spec
+    (λ c κs. search needs)
     returns
-    (λ c κs. search needs)
-    (λ c κs. search needs)
+    any-off-requires
     returns-2
-    (λ c κs. search needs)
+    any-again-requires
     returns-3
+    measures-at-requires
     (λ c κs. search needs)
     returns-4
-    (λ c κs. search needs)
-    returns-5
-    any-off-requires
-    returns-6
-    (λ c κs. search needs)
-    returns-7
-    returns-8)
+    returns-5)

@@ -1,14 +1,14 @@
 -- `put_entries` puts the entries of a file into a list: those passed are in.
 use Prim.Native.Nat.{_-_}
 use Rattle.laws.specs.Fold.{Ran, counting}
-use Rattle.model.specs.Store.{putEntry}
-use Rattle.store.specs.Checks.{entry-on}
+use Rattle.model.specs.FileCosts.{entry-on}
+use Rattle.store.specs.Entries.{putEntry}
 use borrow.Author.Needs.{needs}
 use Rattle.store.proofs.file.put_entries.Statement.{statement}
 use Rattle.store.proofs.file.put_entries.Tie as tie
 
 abbrev Inv-loop : tie.InvT-loop
-Inv-loop file n list₀ k₀ list k = Ran (putEntry file n) n k list₀ list
+Inv-loop file n list₀ k₀ list k = Ran (putEntry file) n k list₀ list
 
 abbrev μ-loop : tie.MeasureT-loop
 μ-loop file n list₀ k₀ list k = n - k

@@ -1,12 +1,12 @@
 -- `put_entry` puts the cost of an entry where its floor number says.
-use Rattle.model.specs.Store.{putEntry}
+use Rattle.laws.specs.Puts.{put}
 use borrow.Author.Needs.{needs}
 use Rattle.store.proofs.file.put_entry.Statement.{statement}
 use Rattle.store.proofs.file.put_entry.Tie as tie
 
 returns : tie.Need-returns
-unfolding putEntry
-returns c = rw (c .before .u16-at .ensures .0)
+unfolding put
+returns c = rw (c .before .u16-at .ensures .0, ← c .before .before .before .before .pre .0)
 
 pub put-entry-spec : {M : Type 1} → statement M
 put-entry-spec =
