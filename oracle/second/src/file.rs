@@ -1,4 +1,5 @@
-//! The hall file: columns, rows, scale, count, floor numbers, costs.
+//! The hall file: columns, rows, scale, count, floor numbers, costs. Document 02,
+//! request 1: no floor number stands twice.
 
 use crate::floor::Floor;
 use crate::refusal::refuse_if;
@@ -44,7 +45,14 @@ fn entries(file: &[u8]) -> impl Iterator<Item = (usize, u8)> + '_ {
     })
 }
 
-/// Refusals 10 to 15, those that need no list.
+/// Whether a floor number stands twice: sorted, equal ones are neighbours.
+fn has_repeat(file: &[u8]) -> bool {
+    let mut numbers: Vec<usize> = entries(file).map(|(number, _)| number).collect();
+    numbers.sort_unstable();
+    numbers.windows(2).any(|pair| pair[0] == pair[1])
+}
+
+/// Refusals 10 to 15, then 28: those that need no list.
 pub fn check_file(file: &[u8]) -> Result<Floor, u8> {
     refuse_if(file.len() < HEAD, 10)?;
     let floor = Floor::measured(file[0], file[1], file[2])?;
@@ -53,10 +61,11 @@ pub fn check_file(file: &[u8]) -> Result<Floor, u8> {
     refuse_if(file.len() != HEAD + 3 * count, 14)?;
     let beyond = entries(file).any(|(number, _)| number >= floor.cells());
     refuse_if(beyond, 15)?;
+    refuse_if(has_repeat(file), 28)?;
     Ok(floor)
 }
 
-/// Read file into a lent base list: refusals 10 to 16, or the filled list.
+/// Read file into a lent base list: refusals 10 to 15, 28 and 16, or the filled list.
 pub fn read_file(file: &[u8], base: &mut [u8]) -> FileAnswer {
     let checked = check_file(file).and_then(|floor| refuse_if(base.len() != floor.cells(), 16));
     if let Err(number) = checked {

@@ -1,5 +1,6 @@
-//! A second, plain reading of document 01: portal routes over a sectored
-//! trolley floor. Each module holds one subject of that paper.
+//! A second, plain reading of document 01, and of document 02 as far as it has
+//! landed: portal routes over a sectored trolley floor. Each module holds one
+//! subject of 01.
 #![forbid(unsafe_code)]
 
 pub mod build;

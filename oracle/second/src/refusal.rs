@@ -1,4 +1,5 @@
-//! "Calls and their numbers": a refusal is its number, tried in 01's order.
+//! "Calls and their numbers": a refusal is its number, tried in 01's order, and
+//! 02's numbers where 02 puts them.
 
 /// Stops a call with its number if the condition holds.
 pub fn refuse_if(condition: bool, number: u8) -> Result<(), u8> {

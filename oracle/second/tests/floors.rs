@@ -257,43 +257,6 @@ fn store_check_of_marks_but_not_of_costs() {
     }
 }
 
-#[test]
-fn files_and_their_refusals() {
-    let refused = |file: &[u8], length: usize| {
-        let mut base = vec![7; length];
-        let answer = read_file(file, &mut base);
-        assert_eq!(base, vec![7; length]);
-        assert_eq!((answer.columns, answer.rows, answer.scale), (0, 0, 0));
-        answer.number
-    };
-    assert_eq!(refused(&[0, 0, 0, 0], 0), 10);
-    assert_eq!(refused(&[11, 1, 0, 255, 255], 0), 11);
-    assert_eq!(refused(&[1, 1, 10, 255, 255], 0), 12);
-    assert_eq!(refused(&[1, 1, 1, 0x11, 0x27], 0), 13);
-    assert_eq!(refused(&[1, 1, 1, 0x10, 0x27], 0), 14);
-    assert_eq!(refused(&[1, 1, 1, 1, 0, 100, 0, 5], 0), 15);
-    assert_eq!(refused(&[1, 1, 1, 2, 0, 100, 0, 5, 0, 1, 1], 100), 15);
-    assert_eq!(refused(&[1, 1, 1, 0, 0], 99), 16);
-    assert_eq!(refused(&[1, 1, 1, 0, 0], 200), 16);
-}
-
-#[test]
-fn a_file_has_numbers_first_and_its_later_entry_holds() {
-    let mut base = [7; 100];
-    let file = [1, 1, 9, 3, 0, 3, 0, 4, 0, 3, 0, 30, 40, 50];
-    let answer = FileAnswer {
-        number: 0,
-        columns: 1,
-        rows: 1,
-        scale: 9,
-    };
-    assert_eq!(read_file(&file, &mut base), answer);
-    let mut expected = [1; 100];
-    expected[3] = 50;
-    expected[4] = 40;
-    assert_eq!(base, expected);
-}
-
 fn window(first: u8, last: u8, side: u8) -> Window {
     Window { first, last, side }
 }
@@ -506,9 +469,11 @@ fn program_refuses_a_hall_without_further_line() {
     let mut long = vec![0; 65_536];
     long[..5].copy_from_slice(&[2, 1, 1, 0x11, 0x27]);
     assert_eq!(printed(&long), "hall refused 13\n");
-    let mut refused = input([2, 1, 1], &[200], &[(0, 0)]);
-    refused.push(0);
-    assert_eq!(printed(&refused), "hall refused 15\n");
+    for (cells, number) in [(&[200][..], 15), (&[7, 8, 7], 28)] {
+        let mut refused = input([2, 1, 1], cells, &[(0, 0)]);
+        refused.push(0);
+        assert_eq!(printed(&refused), format!("hall refused {number}\n"));
+    }
     assert_eq!(printed(&[2, 0, 1, 0, 0, 1]), "hall refused 11\n");
 }
 
