@@ -1,33 +1,37 @@
 //! Hall files.
 
 use crate::draw::Draw;
+use crate::floor::Floor;
 use crate::halls::Hall;
 
-/// A hall file for this hall: the cells that don't cost 1 in any order, and
-/// entries in front that later ones replace.
+/// A hall file for this hall; no cell stands twice.
 pub fn file(hall: &Hall, draw: &mut Draw) -> Vec<u8> {
-    let costs = hall.floor.costs.iter().enumerate();
-    let mut named: Vec<(usize, u8)> = costs
-        .filter(|cell| *cell.1 != 1)
-        .map(|(n, c)| (n, *c))
+    let others = others(draw);
+    encode(hall.measures(), &entries(&hall.floor, others, draw))
+}
+
+/// How many of a hundred cells of cost 1 a file names: mostly none.
+fn others(draw: &mut Draw) -> usize {
+    draw.pick(&[0, 0, 0, 10, 100])
+}
+
+/// The cells that don't cost 1, and so many in a hundred of the others: upwards, downwards
+/// or in any order.
+fn entries(floor: &Floor, others: usize, draw: &mut Draw) -> Vec<(usize, u8)> {
+    let cells = floor.costs.iter().copied().enumerate();
+    let mut named: Vec<(usize, u8)> = cells
+        .filter(|(_, cost)| *cost != 1 || draw.percent(others))
         .collect();
-    for i in (1..named.len()).rev() {
-        named.swap(i, draw.below(i + 1));
+    match draw.below(6) {
+        0 => {}
+        1 => named.reverse(),
+        _ => {
+            for i in (1..named.len()).rev() {
+                named.swap(i, draw.below(i + 1));
+            }
+        }
     }
-    let room = ((10_000 - named.len()) / 2).min(20);
-    let mut entries = vec![];
-    for _ in 0..draw.below(room + 1) {
-        let cell = draw.below(hall.floor.costs.len());
-        entries.push((cell, draw.bits() as u8));
-    }
-    let replaced = entries
-        .iter()
-        .map(|entry| entry.0)
-        .filter(|cell| hall.floor.costs[*cell] == 1);
-    let restored: Vec<(usize, u8)> = replaced.map(|cell| (cell, 1)).collect();
-    entries.extend(restored);
-    entries.extend(named);
-    encode(hall.measures(), &entries)
+    named
 }
 
 /// Columns, rows, scale, count, floor numbers, costs.
@@ -39,4 +43,9 @@ pub fn encode(measures: [u8; 3], entries: &[(usize, u8)]) -> Vec<u8> {
     }
     file.extend(entries.iter().map(|entry| entry.1));
     file
+}
+
+/// How many entries a file has, or the file that an input begins with.
+pub fn count(file: &[u8]) -> u16 {
+    u16::from_le_bytes([file[3], file[4]])
 }

@@ -11,4 +11,5 @@ pub mod inputs;
 pub mod kinds;
 pub mod pairs;
 pub mod plans;
+pub mod repeats;
 pub mod stores;

@@ -1,15 +1,15 @@
-//! Damaged files and stores, and arguments out of range: each number of 01, and
-//! nothing altered by a refusal.
+//! Damaged files and stores, and arguments out of range: each number of 01, 28 of
+//! document 02, and nothing altered by a refusal.
 
 use std::panic::{AssertUnwindSafe, catch_unwind};
 
 use calls::{Counted, Judge, Measures, Routed, Router, Step, Window};
 use cases::draw::{Draw, Use};
-use cases::{damage, files, halls, pairs, stores};
+use cases::{damage, files, halls, pairs, repeats, stores};
 use reference_standin::Hall as Standin;
 
 use crate::options::Options;
-use crate::refusals::{self, two_bytes};
+use crate::refusals::{self, outcome, two_bytes};
 use crate::report::{Difference, Report};
 use crate::routes::OLD_STEP;
 use crate::text;
@@ -66,10 +66,19 @@ impl Damaged<'_> {
         }
     }
 
+    /// A hall's file, now and then with a cell twice.
+    fn hall_file(&mut self, hall: &halls::Hall) -> Vec<u8> {
+        let mut bytes = files::file(hall, &mut self.draw);
+        if self.draw.percent(30) {
+            repeats::repeat(&mut bytes, &mut self.draw);
+        }
+        bytes
+    }
+
     /// Read file, into a list of the right length or another.
     fn file(&mut self, report: &mut Report) {
         let hall = self.hall();
-        let mut bytes = files::file(&hall, &mut self.draw);
+        let mut bytes = self.hall_file(&hall);
         damage::damage(&mut bytes, &mut self.draw);
         let cells = hall.floor.costs.len();
         let length = self
@@ -191,7 +200,7 @@ impl Damaged<'_> {
     /// The program on a damaged file with pairs behind it.
     fn program(&mut self, report: &mut Report) {
         let hall = self.hall();
-        let mut input = files::file(&hall, &mut self.draw);
+        let mut input = self.hall_file(&hall);
         for _ in 0..self.draw.below(3) {
             pairs::put(pairs::pair(&hall.floor, &mut self.draw), &mut input);
         }
@@ -235,12 +244,5 @@ fn program_text(input: &[u8]) -> (u8, String) {
                 text::lines(&hall, columns * rows, &asked, pairs.len() % 4),
             )
         }
-    }
-}
-
-fn outcome(number: u8) -> String {
-    match number {
-        0 => "accepted".into(),
-        number => format!("refused {number}"),
     }
 }

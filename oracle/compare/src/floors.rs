@@ -1,10 +1,11 @@
-//! The floors that document 01 lists, and a few that readers stumble over: what is
-//! written there, what the Rust gives and what the router gives.
+//! The floors that document 01 lists, and a few that readers of 01 and 02 stumble over:
+//! what is written there, what the Rust gives and what the router gives.
 
 use calls::{Judge, Measures, Router};
 use reference_standin::Hall as Standin;
 
 use crate::plans;
+use crate::refusals;
 use crate::report::{Difference, Report};
 use crate::text;
 
@@ -23,11 +24,13 @@ enum Asked {
     Windows(Floor, usize, &'static [(u8, u8, u8)]),
     /// A source, a goal, the program's line.
     Route(Floor, (usize, usize), &'static str),
+    /// A hall file of one sector: the number of its refusal.
+    File(&'static [u8], u8),
 }
 
-use Asked::{Change, Plan, Route, Scaled, Windows};
+use Asked::{Change, File, Plan, Route, Scaled, Windows};
 
-const FLOORS: [Asked; 23] = [
+const FLOORS: [Asked; 25] = [
     Plan([20.0, 10.0, 1.0, 1.0], [0, 2, 1, 1]),
     Plan([20.0, 10.0, 1.0, 9.0], [0, 2, 1, 9]),
     Plan([20.0, 10.0, 1.0, 9.5], [7, 0, 0, 0]),
@@ -69,6 +72,9 @@ const FLOORS: [Asked; 23] = [
         (300, 109),
         "300 109 2 0 1 1,1:0N0-0 0,1:9-\n",
     ),
+    // Equal costs are 28 too, and 15 is asked of every entry before 28.
+    File(&[1, 1, 1, 2, 0, 7, 0, 7, 0, 5, 5], 28),
+    File(&[1, 1, 1, 3, 0, 0, 0, 0, 0, 100, 0, 1, 1, 1], 15),
 ];
 
 pub fn compare(router: &dyn Router, case: u64, report: &mut Report) {
@@ -81,6 +87,7 @@ pub fn compare(router: &dyn Router, case: u64, report: &mut Report) {
         Change(floor, change, owed) => changed(router, *floor, *change, *owed),
         Windows(floor, sector, owed) => windows(router, *floor, *sector, owed),
         Route(floor, pair, owed) => route(router, *floor, *pair, owed),
+        File(bytes, owed) => refused(router, bytes, *owed),
     };
     report.count("floors compared", 1);
     if !written {
@@ -164,4 +171,14 @@ fn route(router: &dyn Router, floor: Floor, pair: (usize, usize), owed: &str) ->
         router.hallroute(&input) == owed.as_bytes()
             && text::lines(&hall, sectors, &[pair], 0) == owed
     })
+}
+
+/// The Rust has no hall file: 01's and 02's refusals stand for it.
+fn refused(router: &dyn Router, file: &[u8], owed: u8) -> bool {
+    let mut base = [77; 100];
+    let line = format!("hall refused {owed}\n");
+    router.read_file(file, &mut base).number == owed
+        && base == [77; 100]
+        && refusals::file(file, base.len()).err() == Some(owed)
+        && router.hallroute(file) == line.as_bytes()
 }

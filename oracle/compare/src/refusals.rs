@@ -1,5 +1,5 @@
-//! 01's refusals of damaged bytes, which the Rust does not know. Each list of
-//! numbers stands in 01's order.
+//! 01's refusals of damaged bytes, which the Rust does not know, and 28 of document 02.
+//! Each list of numbers stands in 01's order, 28 after 15 and before 16.
 
 use calls::Measures;
 
@@ -15,6 +15,9 @@ pub fn file(file: &[u8], list: usize) -> Result<(Measures, Vec<u8>), u8> {
     let (numbers, costs) = file[5..].split_at(2 * count);
     let numbers: Vec<usize> = numbers.chunks(2).map(two_bytes).collect();
     refuse(numbers.iter().any(|number| *number >= cells), 15)?;
+    let mut named = vec![false; cells];
+    let mut again = |number: &usize| std::mem::replace(&mut named[*number], true);
+    refuse(numbers.iter().any(&mut again), 28)?;
     refuse(list != cells, 16)?;
     let mut base = vec![1; cells];
     for (number, cost) in numbers.into_iter().zip(costs) {
@@ -66,6 +69,14 @@ fn measures(columns: u8, rows: u8, scale: u8) -> Result<(), u8> {
     let fits = |side| (1..=10).contains(&side);
     refuse(!fits(columns) || !fits(rows), 11)?;
     refuse(!(1..=9).contains(&scale), 12)
+}
+
+/// A number as it is counted.
+pub fn outcome(number: u8) -> String {
+    match number {
+        0 => "accepted".into(),
+        number => format!("refused {number}"),
+    }
 }
 
 pub fn refuse(condition: bool, number: u8) -> Result<(), u8> {

@@ -7,7 +7,7 @@ use std::path::Path;
 use calls::{Judge, Measures, Step};
 use cases::draw::{Draw, Use};
 use cases::floor::Floor;
-use cases::{changes, damage, files, halls, pairs};
+use cases::{changes, damage, files, halls, pairs, repeats};
 use reference_standin::Hall as Standin;
 
 use crate::options::Options;
@@ -80,12 +80,16 @@ impl Replay {
         self.owed.push('\n');
     }
 
-    /// A hall's file, now and then damaged, and the list of base costs.
+    /// A hall's file, now and then damaged or with a cell twice, and the list of base costs.
     fn hall(&mut self, seed: u64, case: u64) {
         let mut draw = Draw::new(seed, case, Use::File);
         let mut file = files::file(&halls::hall(seed, case), &mut draw);
-        if draw.percent(30) {
-            damage::damage(&mut file, &mut draw);
+        match draw.below(10) {
+            0..3 => damage::damage(&mut file, &mut draw),
+            3 => {
+                repeats::repeat(&mut file, &mut draw);
+            }
+            _ => {}
         }
         self.asked.push(b'f');
         self.asked.extend((file.len() as u16).to_le_bytes());

@@ -1,4 +1,4 @@
-//! The second reading of document 01 as a router.
+//! The second reading as a router.
 
 use calls::{Counted, Measures, Routed, Router, Step, Window};
 
