@@ -1,6 +1,6 @@
 #!/usr/bin/env bash
-# Holds the proved library, the proved program and the second reading of document 01
-# against the Rust of docs/src, in about a minute once library and program are proved.
+# Holds the proved library, the proved program and the second reading against the Rust
+# of docs/src, in about a minute once library and program are proved.
 # The last lines have the counts; any difference makes the status non-zero.
 set -euo pipefail
 cd "$(dirname "${BASH_SOURCE[0]}")"

@@ -1,8 +1,69 @@
 //! Hall files.
 
-use crate::draw::Draw;
+use crate::damage::{self, Turn};
+use crate::draw::{Draw, Use};
 use crate::floor::Floor;
-use crate::halls::Hall;
+use crate::halls::{self, Hall};
+use crate::repeats;
+
+/// A file, and the list that it is read into.
+pub struct Drawn {
+    /// How it is made of a whole one.
+    pub kind: &'static str,
+    /// Where a cell stands twice.
+    pub repeat: &'static str,
+    pub bytes: Vec<u8>,
+    /// How long the list is, and how long it would have to be for the floor.
+    pub list: usize,
+    pub cells: usize,
+}
+
+/// Kinds of files: how often, a name, and how they are made of whole ones.
+const KINDS: [(usize, (&str, Turn)); 8] = [
+    (50, ("whole", |_, _, _| {})),
+    (8, ("with spare bytes", damage::with_spare_bytes)),
+    (7, ("cut", damage::cut)),
+    (7, ("with other measures", damage::with_other_measures)),
+    (8, ("with another count", damage::with_another_count)),
+    (10, ("with a cell too large", damage::with_a_cell_too_large)),
+    (8, ("damaged", |file, _, draw| damage::damage(file, draw))),
+    (2, ("of any bytes", damage::of_any_bytes)),
+];
+
+/// The file of this seed and number: in half of them a cell stands twice, whatever else they are.
+pub fn drawn(seed: u64, case: u64) -> Drawn {
+    let mut draw = Draw::new(seed, case, Use::File);
+    let (measures, floor, others) = match draw.percent(2) {
+        true => ([10, 10, 1], full_floor(&mut draw), 100),
+        false => {
+            let hall = halls::hall(seed, case);
+            (hall.measures(), hall.floor, others(&mut draw))
+        }
+    };
+    let mut bytes = encode(measures, &entries(&floor, others, &mut draw));
+    let repeat = match draw.percent(50) {
+        true => repeats::repeat(&mut bytes, &mut draw),
+        false => repeats::NONE,
+    };
+    let (kind, turn) = draw.weighted(&KINDS);
+    turn(&mut bytes, &floor, &mut draw);
+    let cells = floor.costs.len();
+    let list = draw.pick(&[cells, cells, cells, cells - 1, cells + 1, 0]);
+    Drawn {
+        kind,
+        repeat,
+        bytes,
+        list,
+        cells,
+    }
+}
+
+/// The largest floor, at any costs.
+fn full_floor(draw: &mut Draw) -> Floor {
+    let mut floor = Floor::open(10, 10);
+    floor.costs.fill_with(|| draw.bits() as u8);
+    floor
+}
 
 /// A hall file for this hall; no cell stands twice.
 pub fn file(hall: &Hall, draw: &mut Draw) -> Vec<u8> {

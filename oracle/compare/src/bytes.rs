@@ -1,10 +1,10 @@
-//! Damaged files and stores, call for call against the second reading: each answer
-//! and every byte that was lent.
+//! Damaged stores, call for call against the second reading: each answer and every byte
+//! that was lent.
 
 use calls::{Router, Window};
 use cases::draw::{Draw, Use};
 use cases::floor::Floor;
-use cases::{changes, damage, files, halls, pairs, stores};
+use cases::{changes, damage, halls, pairs, stores};
 
 use crate::options::Options;
 use crate::report::{Difference, Report};
@@ -27,8 +27,7 @@ pub fn compare(router: &dyn Router, options: &Options, case: u64, report: &mut R
         case,
         draw: Draw::new(options.seed, case, Use::Bytes),
     };
-    report.count("cases of damaged bytes", 1);
-    bytes.file(report);
+    report.count("damaged stores", 1);
     bytes.store(report);
 }
 
@@ -51,19 +50,6 @@ impl Bytes<'_> {
                 text: format!("{call}: {given:?}, second {owed:?}"),
             });
         }
-    }
-
-    fn file(&mut self, report: &mut Report) {
-        let hall = halls::hall(self.seed, self.case);
-        let mut file = files::file(&hall, &mut self.draw);
-        damage::damage(&mut file, &mut self.draw);
-        let cells = hall.floor.costs.len();
-        let length = self.draw.pick(&[cells, cells, cells, cells - 1, cells + 1]);
-        let mut lent = [vec![77; length], vec![77; length]];
-        let given = self.router.read_file(&file, &mut lent[0]);
-        let owed = Second.read_file(&file, &mut lent[1]);
-        let pair = ((given, &lent[0]), (owed, &lent[1]));
-        self.check("read file", owed.number, pair, report);
     }
 
     fn store(&mut self, report: &mut Report) {

@@ -3,6 +3,7 @@
 mod answer;
 mod bytes;
 mod damaged;
+mod files;
 mod floors;
 mod halls;
 mod options;
@@ -55,23 +56,26 @@ fn main() -> ExitCode {
 }
 
 /// The parts of a whole comparison.
-const PARTS: [Command; 7] = [
+const PARTS: [Command; 8] = [
     Command::Floors,
     Command::Halls,
     Command::Lent,
     Command::Plans,
     Command::Damaged,
     Command::Bytes,
+    Command::Files,
     Command::Program,
 ];
+
+/// The parts that hold a router against the second reading.
+const BY_SECOND: [Command; 3] = [Command::Bytes, Command::Files, Command::Program];
 
 /// Runs every part and the self-check, with one line about all of it at the end.
 fn all(options: &Options) -> bool {
     let mut whole = Report::default();
     for command in PARTS {
         // The second reading is not held against itself.
-        let by_second = [Command::Bytes, Command::Program].contains(&command);
-        if by_second && options.router == Answering::Second {
+        if BY_SECOND.contains(&command) && options.router == Answering::Second {
             continue;
         }
         let part = options.part(command, options.count);
@@ -113,6 +117,7 @@ fn run_with(router: &dyn Router, options: &Options) -> Report {
         Command::Plans => plans::compare(router, options, case, report),
         Command::Damaged => damaged::compare(router, options, case, report),
         Command::Bytes => bytes::compare(router, options, case, report),
+        Command::Files => files::compare(router, options, case, report),
         Command::Program => program::compare(router, options, case, report),
         Command::Floors => floors::compare(router, case, report),
         Command::Selfcheck

@@ -7,7 +7,8 @@ compare halls     built halls: stores, windows, changes, routes, program
 compare lent      lent stores: windows, changes, routes
 compare plans     plans
 compare damaged   damaged files and stores, and every argument out of range
-compare bytes     damaged files and stores, every lent byte against the second reading
+compare bytes     damaged stores, every lent byte against the second reading
+compare files     hall files, whole and damaged, every lent byte against the second reading
 compare program   inputs of the program, whole and damaged, against the second reading
 compare floors    the floors that document 01 lists, and a few more
 compare selfcheck every sabotage is reported
@@ -26,7 +27,7 @@ compare hallroute answers as the program hallroute does
   --into FOLDER where replay writes stdin and stdout (.)
   --sabotage K  spoils the answers on purpose: tie, midpoint, target, mark, windows,
                 leg, run, none, tail, refused, file, plan, program, check, spare,
-                room, behind, long";
+                room, behind, long, repeat";
 
 /// What is compared.
 #[derive(Clone, Copy, PartialEq, Eq)]
@@ -36,6 +37,7 @@ pub enum Command {
     Plans,
     Damaged,
     Bytes,
+    Files,
     Program,
     Floors,
     Selfcheck,
@@ -53,12 +55,13 @@ pub enum Answering {
     Rust,
 }
 
-const COMMANDS: [(&str, Command); 12] = [
+const COMMANDS: [(&str, Command); 13] = [
     ("halls", Command::Halls),
     ("lent", Command::Lent),
     ("plans", Command::Plans),
     ("damaged", Command::Damaged),
     ("bytes", Command::Bytes),
+    ("files", Command::Files),
     ("program", Command::Program),
     ("floors", Command::Floors),
     ("selfcheck", Command::Selfcheck),
@@ -132,10 +135,10 @@ impl Options {
         Ok(())
     }
 
-    /// The same options for another command. Plans and listed floors are so small
-    /// that a hundred of them stand for one case.
+    /// The same options for another command. Plans, hall files and listed floors are so
+    /// small that a hundred of them stand for one case.
     pub fn part(&self, command: Command, count: u64) -> Self {
-        let small = [Command::Plans, Command::Floors].contains(&command);
+        let small = [Command::Plans, Command::Files, Command::Floors].contains(&command);
         let times = if small { 100 } else { 1 };
         Options {
             command,

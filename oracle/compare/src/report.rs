@@ -65,7 +65,8 @@ impl Report {
             "routes asked",
             "plans",
             "damaged cases",
-            "cases of damaged bytes",
+            "damaged stores",
+            "hall files",
             "inputs of the program",
         ] {
             let number = self.counts.get(what).unwrap_or(&0);

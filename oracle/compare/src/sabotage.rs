@@ -26,9 +26,10 @@ pub enum Sabotage {
     Room,
     Behind,
     Long,
+    Repeat,
 }
 
-const KINDS: [(&str, Sabotage, Command); 18] = [
+const KINDS: [(&str, Sabotage, Command); 19] = [
     ("tie", Sabotage::Tie, Command::Halls),
     ("midpoint", Sabotage::Midpoint, Command::Halls),
     ("target", Sabotage::Target, Command::Halls),
@@ -47,6 +48,7 @@ const KINDS: [(&str, Sabotage, Command); 18] = [
     ("room", Sabotage::Room, Command::Halls),
     ("behind", Sabotage::Behind, Command::Lent),
     ("long", Sabotage::Long, Command::Program),
+    ("repeat", Sabotage::Repeat, Command::Files),
 ];
 
 impl Sabotage {
@@ -102,9 +104,11 @@ impl Router for Sabotaged<'_> {
     }
 
     fn read_file(&self, file: &[u8], base: &mut [u8]) -> Measures {
-        let answer = self.router.read_file(file, base);
-        if self.kind == Sabotage::File && answer.number == 15 {
-            base.fill(1);
+        let mut answer = self.router.read_file(file, base);
+        match (self.kind, answer.number) {
+            (Sabotage::File, 15) => base.fill(1),
+            (Sabotage::Repeat, 28) => answer.number = 0,
+            _ => {}
         }
         answer
     }

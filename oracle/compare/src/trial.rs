@@ -164,7 +164,8 @@ impl Trial<'_> {
     }
 }
 
-fn first_difference(owed: &[u8], given: &[u8]) -> Option<usize> {
+/// The first place at which two lists are not alike.
+pub fn first_difference(owed: &[u8], given: &[u8]) -> Option<usize> {
     if owed.len() != given.len() {
         return Some(owed.len().min(given.len()));
     }
