@@ -16,11 +16,20 @@ def from_hex(text):
     return bytearray() if text == "-" else bytearray.fromhex(text)
 
 
-def with_zeros(words):
-    """Bytes in hex, and behind them some zeros."""
+def entries(named):
+    """What a hall file has behind its scale: count, floor numbers, costs."""
+    two_bytes = [number.to_bytes(2, "little") for number in (len(named), *(cell for cell, _ in named))]
+    return b"".join(two_bytes) + bytes(cost for _, cost in named)
+
+
+def data_of(words):
+    """Bytes in hex, and behind them entries for some cells at one cost, and zeros."""
     data = from_hex(words[0])
-    if words[1:2] == ["zeros"]:
-        data += bytes(int(words[2]))
+    if "cells" in words:
+        at = words.index("cost")
+        data += entries([(cell, int(words[at + 1])) for cell in numbers(words[2:at])])
+    if "zeros" in words:
+        data += bytes(int(words[words.index("zeros") + 1]))
     return data
 
 
@@ -31,7 +40,7 @@ def call(state, line):
         return " ".join([word, *words[:4]])
     if word == "file":
         length = int(words[words.index("list") + 1])
-        return f"file {to_hex(with_zeros(words))} {to_hex([OLD] * length)}"
+        return f"file {to_hex(data_of(words))} {to_hex([OLD] * length)}"
     if word in ("build", "built"):
         state = lent_to_build(state, words)
         return f"build {' '.join(map(str, state.measures))} {to_hex(state.base)} {to_hex(state.store)}"

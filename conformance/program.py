@@ -1,17 +1,13 @@
 """What a program like hallroute is given for a case, and the text that it owes."""
 import re
 
-from calls import with_zeros
+from calls import data_of, entries
 from store import State, prepare
 
 
 def hall_file(state):
     """The hall file of the present measures and base costs."""
-    named = [number for number, cost in enumerate(state.base) if cost != 1]
-    file = bytearray([*state.measures]) + len(named).to_bytes(2, "little")
-    for number in named:
-        file += number.to_bytes(2, "little")
-    return file + bytes(state.base[number] for number in named)
+    return bytearray(state.measures) + entries([(number, cost) for number, cost in enumerate(state.base) if cost != 1])
 
 
 def program_input(case):
@@ -20,7 +16,7 @@ def program_input(case):
     for line, answer in case.statements:
         word, *words = line.split()
         if word == "input":
-            data = with_zeros(words)
+            data = data_of(words)
             owed += [text for part in answer for text in repeated(part)]
         elif not prepare(state, line) and word == "route":
             data = hall_file(state) if data is None else data

@@ -7,8 +7,8 @@
     python3 conformance/run.py send hallroute|calls CASE  what a router is given, and nothing else
 
 `--group NAME` in front of COMMAND takes the cases of one file. Each case that fails is printed with the rule of
-document 01 that it is about, those of the rule that most of them share first. The status is 0 if some were tried and
-none fails. README.md has the forms of cases and lines.
+document 01 or 02 that it is about, those of the rule that most of them share first. The status is 0 if some were tried
+and none fails. README.md has the forms of cases and lines.
 """
 import concurrent.futures
 import os

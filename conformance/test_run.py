@@ -252,6 +252,10 @@ class Texts(unittest.TestCase):
         self.assertLessEqual(max(map(len, lines)), form.WIDTH)
         self.assertEqual(form.unwrapped([*lines, "built"]), [long, "built"])
 
+    def test_entries_and_zeros_stand_behind_a_head(self):
+        data = calls.data_of("020101 cells 9 5-6 cost 40 zeros 2".split())
+        self.assertEqual(data.hex(" ", -5), "0201010300 0900050006 0028282800 00")
+
     def test_no_two_cases_are_equal(self):
         asked = [[line for line, _ in case.statements] for case in form.all_cases()]
         self.assertEqual([statements for at, statements in enumerate(asked) if statements in asked[:at]], [])

@@ -20,7 +20,7 @@ ABOUT = {
     "lent_stores": "Stores whose scaled costs and marks disagree, and bytes behind a store.",
     "limits": "The smallest and the largest floors, and how sectors are numbered.",
     "refusals": "Each refusal of build, change, route and windows, and their order.",
-    "files": "Hall files: entries and refusals 10 to 16.",
+    "files": "Hall files: entries, and refusals 10 to 16 and 28.",
     "plans": "Measures from floats: rounding, and refusals 1 to 9.",
     "program": "The program hallroute: its input's limits and its lines.",
 }

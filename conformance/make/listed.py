@@ -1,10 +1,11 @@
 """Cases that are listed one by one: the floors of document 01, and every limit and refusal with its neighbours."""
 import struct
 
+import calls
 import winding
 from floors import Draw, Hall, scatter
 from rules import (
-    BUILD, CHANGE, CHECK, COLUMNS, FILE, LEG, LINES, LISTING, NUMBER, ONE, ORDER_22, PLAN, PROGRAM, READ, ROUTE,
+    BUILD, CHANGE, CHECK, COLUMNS, FILE, LEG, LINES, LISTING, NUMBER, ONE, ORDER_22, PLAN, PROGRAM, READ, REPEAT, ROUTE,
     RUN, SCALE, SIZES, STEPS, TIES, WINDOWS,
 )
 
@@ -60,9 +61,7 @@ def argument_refusals():
 
 def file_of(measures, entries):
     """A hall file, in hex."""
-    data = bytes(measures) + struct.pack("<H", len(entries))
-    data += b"".join(struct.pack("<H", number) for number, _ in entries)
-    return (data + bytes(cost for _, cost in entries)).hex()
+    return (bytes(measures) + calls.entries(entries)).hex()
 
 
 def files():
@@ -71,15 +70,41 @@ def files():
     found += [(READ, f"file {whole}{more} list 100") for more in ("00", "000000")]
     heads = ["000101", "010001", "0b0101", "010b01", "010100", "01010a", "000000"]
     found += [(READ, f"file {head}0000 list 100") for head in heads] + [(READ, f"file {head}1127 list 100") for head in ("0b0101", "01010a")]
-    found += [(READ, f"file 01{'01' * 2}{count} zeros {3 * number} list 100") for count, number in (("1027", 10000), ("1127", 10001))]
+    found += [(READ, f"file 0a0a01 cells 0-{last} cost 1 list 10000") for last in (9999, 10000)]
     found += [(READ, f"file 010101{count} list {length}") for count in ("1027", "1127") for length in (100, 0)]
-    beyond = [[(99, 2)], [(100, 2)], [(100, 2), (100, 2), (3, 1)], [(65535, 2)], [(3, 2), (356, 2)]]
+    beyond = [[(99, 2)], [(100, 2)], [(100, 2), (3, 1)], [(65535, 2)], [(3, 2), (356, 2)]]
     found += [(READ, f"file {file_of((1, 1, 1), entries)} list {length}") for entries in beyond for length in (100, 99)]
     found += [(READ, f"file {file_of((2, 1, 1), [])} list {length}") for length in (0, 100, 199, 200, 201)]
-    entries = [[(3, 30), (4, 40), (3, 50)], [(1, 255), (256, 3), (1, 0)], [(7, 1), (8, 255), (9, 254), (8, 1)]]
+    entries = [[(3, 30), (4, 40)], [(256, 3), (1, 0)], [(9, 254), (8, 255), (7, 1)], [(40, 2), (299, 0), (7, 255), (8, 2)]]
     found += [(FILE, f"file {file_of((3, 1, 9), listed)} list 300") for listed in entries]
-    found.append((FILE, "file 0101010001 zeros 768 list 100"))
+    found.append((FILE, "file 030101 cells 0-255 cost 1 list 300"))
+    found += [(REPEAT, f"file {line}") for line in [*repeats(), *repeats_beside_defects(), *many_entries()]]
     return [(rule, [line]) for rule, line in found]
+
+
+def repeats():
+    """Files in which a floor number stands twice or more often, and one in which numbers only look alike."""
+    neighbours = [[(7, 5), (7, 5)], [(7, 5), (7, 6)], [(7, 5), (7, 6), (9, 5)], [(9, 5), (7, 5), (7, 6)]]
+    apart = [[(7, 5), (9, 5), (8, 5), (7, 6)], [(7, 5), (8, 5), (7, 5)], [(7, 5), (8, 5), (7, 6), (9, 5)], [(9, 5), (7, 5), (8, 5), (7, 6)]]
+    others = [[(7, 1), (7, 255)], [(7, 255), (7, 1)], [(7, 1), (7, 1)], [(7, 5), (7, 6), (7, 7)], [(0, 2), (99, 2), (0, 3), (99, 3)]]
+    found = [f"{file_of((1, 1, 1), entries)} list 100" for entries in [*neighbours, *apart, *others]]
+    return [*found, f"{file_of((3, 1, 1), [(7, 2), (107, 3), (263, 4), (8, 2)])} list 300"]
+
+
+def repeats_beside_defects():
+    """A repeat with a list that is too short or too long, a number too large in every place, and a wrong length."""
+    twice = file_of((1, 1, 1), [(7, 5), (7, 6)])
+    found = [f"{twice} list {length}" for length in (0, 99, 101)]
+    beyond = [[(0, 1), (0, 1), (100, 1)], [(0, 1), (100, 1), (0, 1)], [(100, 1), (0, 1), (0, 1)], [(100, 2), (100, 2)]]
+    found += [f"{file_of((1, 1, 1), entries)} list {length}" for entries in beyond for length in (100, 99)]
+    return [*found, f"{twice[:-2]} list 100", f"{twice}00 list 100"]
+
+
+def many_entries():
+    """10,000 entries with one repeat, also beside another defect; one entry more; and one cell 10,000 times."""
+    cells = ["0-9998 0", "0-9998 9998", "0 0-9998", "0-4999 4999-9998", "0-9997 0 10000", "10000 0-9997 0", "0-9999 0"]
+    found = [f"0a0a01 cells {listed} cost 1 list 10000" for listed in cells]
+    return [*found, "0a0a01 cells 0-9998 0 cost 1 list 9999", "0101011027 zeros 30000 list 100", "0101011127 zeros 30003 list 100"]
 
 
 def bits(value):
@@ -155,9 +180,12 @@ def program():
     found += [(LINES, text) for text in ("0201010100c80007", "01010a0000")]
     found += [(LINES, f"0b010100{spare}") for spare in ("00", "000001", "00000102", "0000010203", "0000")]
     found += [(LINES, f"{file_of((1, 1, 1), [(100, 2)])}{spare}") for spare in ("", "01", "00000000")]
-    found += [(PROGRAM, f"0101011027 zeros {30000 + more}") for more in (0, 4, 7)] + [(PROGRAM, "0101011027 zeros 29999")]
+    found += [(PROGRAM, f"0a0a01 cells 0-9999 cost 1 zeros {more}") for more in (0, 4, 7)] + [(PROGRAM, "0101011027 zeros 29999")]
     found += [(PROGRAM, f"0101011127 zeros {more}") for more in (0, 30003, 65531, 65532)]
     found += [(PROGRAM, f"0101010000 zeros {more}") for more in (65527, 65530, 65531, 65532, 65535)] + [(PROGRAM, "- zeros 65536"), (PROGRAM, "- zeros 65537")]
+    twice = file_of((2, 1, 1), [(7, 5), (9, 5), (7, 6)])
+    found += [(REPEAT, text) for text in (twice, f"{file_of((2, 1, 1), [(7, 1), (7, 1)])}{pair}", "0a0a01 cells 0-9998 0 cost 1 zeros 4")]
+    found += [(LINES, f"{twice}{more}") for more in (pair, pair * 2, f"{pair}01", "01")] + [(LINES, f"{file_of((1, 1, 1), [(0, 1), (0, 1), (100, 1)])}{pair}")]
     *floor, route = winding.aisle(10, 10, winding.weave(10, 10))
     _, source, goal = route.split()
     return [(rule, [f"input {text}"]) for rule, text in found] + [(LISTING, [*floor, f"route {goal} {source}"])]

@@ -2,8 +2,7 @@
 """Makes the conformance cases, ../cases/*.txt, from seeds.
 
 Owed answers are those of the Rust of docs/src (compare answer --router rust). Drawn cases are kept because a wrong
-reading of document 01 (wrong/*.edit) answers them otherwise: for each wrong reading the shortest of those drawn, and for
-one of scaling also the shortest whose routes a program like hallroute prints otherwise. Listed cases come from
+reading (wrong/*.edit) answers them otherwise: for each wrong reading the shortest of those drawn, and for one of scaling also the shortest whose routes a program like hallroute prints otherwise. Listed cases come from
 listed.py. No case about another rule is one that a wrong tie answers otherwise. The status is not 0 if a wrong reading
 passes all cases of its group, or two cases are equal.
 
@@ -26,7 +25,8 @@ import store
 import wrong
 
 COMPARE = wrong.TOP / "oracle" / "target" / "release" / "compare"
-SCOPE = (wrong.TOP / "docs" / "01-scope.md").read_text(encoding="utf-8").replace("**", "")
+# The words of documents 01 and 02.
+WORDS = "\n".join((wrong.TOP / "docs" / name).read_text(encoding="utf-8") for name in ("01-scope.md", "02-change-requests.md")).replace("**", "")
 
 
 class Router:
@@ -58,7 +58,7 @@ def answered(group, name, statements, rust):
 
 def program_answer(line):
     """What the Rust prints for an input; equal lines in a row are counted."""
-    data = calls.with_zeros(line.split()[1:])
+    data = calls.data_of(line.split()[1:])
     printed = subprocess.run([COMPARE, "hallroute", "--router", "rust"], input=data, stdout=subprocess.PIPE, check=True).stdout
     lines = []
     for text in printed.decode().splitlines():
@@ -163,8 +163,8 @@ def name(group, cases, known):
     """Names the cases of a group; `known` has what the cases named before ask."""
     for at, case in enumerate(cases, 1):
         case.name = f"{group}-{at:02}"
-        if case.rule not in SCOPE:
-            sys.exit(f"{case.name}: no sentence of document 01: {case.rule}")
+        if case.rule not in WORDS:
+            sys.exit(f"{case.name}: no sentence of document 01 or 02: {case.rule}")
         equal = known.setdefault(asked_by(case), case.name)
         if equal != case.name:
             sys.exit(f"{case.name} asks the same as {equal}")

@@ -1,4 +1,4 @@
-"""Sentences of document 01 that listed cases are about."""
+"""Sentences of documents 01 and 02 that listed cases are about."""
 READ = (
     "Read file into a lent base list: 10 under 5 bytes; 11 columns or rows outside 1 to 10; 12 scale outside 1 to 9; 13 count above "
     "10,000; 14 length not 5 + 3 × count; 15 a floor number too large; 16 list length not 100 × sectors. An accepted file gives its "
@@ -6,8 +6,9 @@ READ = (
 )
 FILE = (
     "File: bytes columns, rows, scale; u16 count, low byte first; then two parallel arrays, u16 floor numbers and byte costs. "
-    "Unnamed cells cost 1; the later of two entries holds."
+    "Unnamed cells cost 1;"
 )
+REPEAT = "28 when a floor number stands twice in the file, after 15 and before 16."
 BUILD = "Build: 11; 12; 17 base list length not 100 × sectors; 18 store too short. Bytes past the size stay."
 CHECK = (
     "Store check, opening each call below: 18 under 4 bytes; 11; 12; 19 fourth byte not 0; 18 below its size; 20 a mark above 1,023, "

@@ -1,5 +1,5 @@
 #!/usr/bin/env python3
-"""Tries what the cases are made with: equal cases, sentences that 01 lacks, and the longest path."""
+"""Tries what the cases are made with: equal cases, sentences that 01 and 02 lack, and the longest path."""
 import unittest
 
 import make
@@ -27,8 +27,8 @@ class Names(unittest.TestCase):
             with self.assertRaisesRegex(SystemExit, "^other-01 asks the same as trial-01$"):
                 make.name("other", [a_case(self.RULE, second)], known)
 
-    def test_a_sentence_that_01_lacks_is_refused(self):
-        with self.assertRaisesRegex(SystemExit, "no sentence of document 01"):
+    def test_a_sentence_that_01_and_02_lack_is_refused(self):
+        with self.assertRaisesRegex(SystemExit, "no sentence of document 01 or 02"):
             make.name("trial", [a_case("No pair: some.", "build")], {})
 
 

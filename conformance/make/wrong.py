@@ -1,13 +1,13 @@
-"""Wrong readings of document 01: each wrong/*.edit makes one of the second reading (oracle/second).
+"""Wrong readings of documents 01 and 02: each wrong/*.edit makes one of the second reading (oracle/second).
 
-An edit has the form of a must-fail edit, and says which group of cases must catch it and which rule of 01 it breaks:
+An edit has the form of a must-fail edit, and says which group of cases must catch it and which rule it breaks:
 
     # what is wrong
     file: route.rs
     old: text that stands there once
     new: text in its place
     group: pairs
-    rule: a sentence of document 01
+    rule: a sentence of document 01 or 02
 
     python3 conformance/make/wrong.py [NAME...]     holds wrong readings, or all, against the cases: each must fail by its rule
 """
