@@ -4,6 +4,7 @@ use cases::draw::{Draw, Use};
 use cases::floor::Floor;
 use hall::bytes;
 
+use crate::files::{CELLS, file};
 use crate::halls::{SEED, combs, drawn, sevenths};
 use crate::routes::{ROOM, random};
 use crate::stores::{empty, stored};
@@ -18,7 +19,22 @@ struct Row {
     make: fn(),
 }
 
-const ROWS: [Row; 7] = [
+const ROWS: [Row; 10] = [
+    Row {
+        name: "read file, 0 entries",
+        call: "hall_read_file",
+        make: || read(0),
+    },
+    Row {
+        name: "read file, 1,000 entries",
+        call: "hall_read_file",
+        make: || read(1_000),
+    },
+    Row {
+        name: "read file, 10,000 entries",
+        call: "hall_read_file",
+        make: || read(CELLS),
+    },
     Row {
         name: "build, scale 1, 20 % blocked",
         call: "hall_build",
@@ -66,6 +82,13 @@ pub fn list() {
 /// Makes the calls of a row.
 pub fn make(number: usize) {
     (ROWS[number].make)();
+}
+
+fn read(count: usize) {
+    let (file, mut base) = (file(count), vec![0; CELLS]);
+    for _ in 0..CALLS {
+        assert_eq!(bytes::read_file(&file, &mut base).number, 0);
+    }
 }
 
 fn build(scale: u8, floor: &Floor) {

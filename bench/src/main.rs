@@ -4,6 +4,7 @@
 //! makes the library's calls of one.
 
 mod counted;
+mod files;
 mod halls;
 mod routes;
 mod stores;
@@ -20,6 +21,7 @@ fn main() {
 }
 
 fn print() {
+    files::print();
     stores::print();
     routes::print();
     routes::print_growth();

@@ -28,12 +28,13 @@ module _ (file : List ℕ) {r : ℕ} (is : r ≡ formNumber file) (h : r ≤ 0) 
   form-whole = omega (arith, form .whole)
 
 module _ (file list : List ℕ) (r : ℕ) (is : r ≡ readNumber file (length list)) where
-  pub read-refused : 0 < r → ReadAnswers file (length list) (Refused r) × (list ≡ readInto file list)
-  unfolding readAnswer readInto
-  read-refused h = (
-    read-answers file (length list) (rw (← is) (refused r r (measuresAt file) h refl)),
-    rw (← is) (not-accepted r (baseIn file (length list)) list h),
-  )
+  pub refused-answer : 0 < r → ReadAnswers file (length list) (Refused r)
+  unfolding readAnswer
+  refused-answer h = read-answers file (length list) (rw (← is) (refused r r (measuresAt file) h refl))
+
+  pub refused-list : 0 < r → list ≡ readInto file list
+  unfolding readInto
+  refused-list h = rw (← is) (not-accepted r (baseIn file (length list)) list h)
 
   pub read-on : r ≤ 0 → Readable file (length list)
   read-on h = readable file (length list) (rw (← is) (none h))

@@ -101,12 +101,15 @@ pub record EntryOf (file : List ℕ) (n cost : ℕ) : Type 0 where
 abbrev pub Unnamed : List ℕ → ℕ → Type 0
 Unnamed file n = (k : ℕ) → k < entryCount file → entryNumber file k ≢ n
 
--- the search: a cell's cost is that of an entry of the cell, or no entry names the cell and it is 1
-pub cost-named : (file : List ℕ) (n : ℕ) → EntryOf file n (costIn file n) ⊎ (Unnamed file n × (costIn file n ≡ 1))
+-- what the search finds: a cell has the cost of an entry of the cell, or no entry names it and it costs 1
+abbrev Sought : List ℕ → ℕ → Type 0
+Sought file n = EntryOf file n (costIn file n) ⊎ (Unnamed file n × (costIn file n ≡ 1))
+
+sought : (file : List ℕ) (n : ℕ) → Sought file n
 unfolding costIn any
-cost-named file n = go (any (entryNames file n) (entryCount file)) refl
+sought file n = go (any (entryNames file n) (entryCount file)) refl
   where
-    go : (b : Bool) → any (entryNames file n) (entryCount file) ≡ b → EntryOf file n (costIn file n) ⊎ (Unnamed file n × (costIn file n ≡ 1))
+    go : (b : Bool) → any (entryNames file n) (entryCount file) ≡ b → Sought file n
     go true e =
         let s = any-some (entryNames file n) (entryCount file) e in
         inl (record { place = first (entryNames file n) (entryCount file); within = s .0; number-is = names-own file n _ (s .1); cost-is = rw e })
@@ -122,9 +125,9 @@ pub record Filled (file : List ℕ) (size : ℕ) (out : List ℕ) : Type 0 where
 
 -- these say all of it: two such lists are one
 pub filled-only : (file : List ℕ) (size : ℕ) {a b : List ℕ} → Filled file size a → Filled file size b → a ≡ b
-filled-only file size {a} {b} p q = ext-getD 0 a b (p .long ∙ sym (q .long)) (λ n l. go n (omega (arith, p .long)) (cost-named file n))
+filled-only file size {a} {b} p q = ext-getD 0 a b (p .long ∙ sym (q .long)) (λ n l. go n (omega (arith, p .long)) (sought file n))
   where
-    go : (n : ℕ) → n < size → EntryOf file n (costIn file n) ⊎ (Unnamed file n × (costIn file n ≡ 1)) → getD a n 0 ≡ getD b n 0
+    go : (n : ℕ) → n < size → Sought file n → getD a n 0 ≡ getD b n 0
     go n l (inl e) = rw (← e .number-is) (p .named (e .place) (e .within) ∙ sym (q .named (e .place) (e .within)))
     go n l (inr u) = p .unnamed n l (u .0) ∙ sym (q .unnamed n l (u .0))
 
@@ -143,17 +146,16 @@ module _ (file : List ℕ) (size : ℕ) (r : Readable file size) where
 
   -- so each entry's cell has that entry's cost
   own-cost : (k : ℕ) → k < entryCount file → costIn file (entryNumber file k) ≡ entryCost file k
-  own-cost k l = go (cost-named file (entryNumber file k))
+  own-cost k l = go (sought file (entryNumber file k))
     where
-      go : EntryOf file (entryNumber file k) (costIn file (entryNumber file k)) ⊎ (Unnamed file (entryNumber file k) × (costIn file (entryNumber file k) ≡ 1))
-          → costIn file (entryNumber file k) ≡ entryCost file k
+      go : Sought file (entryNumber file k) → costIn file (entryNumber file k) ≡ entryCost file k
       go (inl e) = sym (e .cost-is) ∙ ap (entryCost file) (one-place (e .place) k (e .within) l (e .number-is))
       go (inr u) = absurd (u .0 k l refl)
 
   other-cost : (n : ℕ) → Unnamed file n → costIn file n ≡ 1
-  other-cost n u = go (cost-named file n)
+  other-cost n u = go (sought file n)
     where
-      go : EntryOf file n (costIn file n) ⊎ (Unnamed file n × (costIn file n ≡ 1)) → costIn file n ≡ 1
+      go : Sought file n → costIn file n ≡ 1
       go (inl e) = absurd (u (e .place) (e .within) (e .number-is))
       go (inr v) = v .1
 
@@ -168,7 +170,7 @@ module _ (file : List ℕ) (size : ℕ) (r : Readable file size) where
         unnamed = λ n l u. tabulate-at (costIn file) size n 0 l ∙ other-cost n u;
       }
 
--- "in an accepted file each entry's cell has that entry's cost, and every other cell costs 1"
+-- in an accepted file each entry's cell has that entry's cost, and every other cell costs 1
 pub read-fills : (file list : List ℕ) → readNumber file (length list) ≡ 0 → Filled file (length list) (readInto file list)
 unfolding readInto ifAccepted
 read-fills file list e = rw e (base-filled file (length list) (readable file (length list) e))

@@ -1,13 +1,13 @@
 -- `read_file` answers and fills as a read does: refused, the list is as it was.
 use native.Mathlib.Omega.{arith}
 use denote.Ref.{now}
-use Rattle.hall_file.proofs.Reading.{read-refused, read-on, read-accepted}
+use Rattle.hall_file.proofs.Reading.{refused-answer, refused-list, read-on, read-accepted}
 use borrow.Author.Needs.{needs}
 use Rattle.hall_file.proofs.read.read_file.Statement.{statement}
 use Rattle.hall_file.proofs.read.read_file.Tie as tie
 
 returns : tie.Need-returns
-returns c = read-refused _ _ _ (c .before .read-number .ensures) (c .if1 .taken)
+returns c = search (needs, refused-answer, refused-list)
 
 measures-at-requires : tie.Need-measures-at-requires
 measures-at-requires c κs =

@@ -1,5 +1,4 @@
 -- `read_number` climbs the ladder of the refusals of a file: each return goes by what the tests before it found.
-use mathlib.Core.Path.{_∙_}
 use Rattle.laws.specs.Ladder.{refuse-here, refuse-past, flag}
 use Rattle.model.specs.Calls.{entriesNumber, readNumber}
 use Rattle.model.specs.Refusals.{earlier, later}
