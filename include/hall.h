@@ -157,7 +157,7 @@ hall_measures_answer hall_plan(float size_x, float size_y, float unit, float rad
  *
  * The file: bytes columns, rows, scale; a count, two bytes, low byte first; then count floor numbers,
  * two bytes each, low byte first; then count costs, one byte each. Floor numbers stand in any order,
- * each once: one that stands twice is refused, with equal costs too. Unnamed cells cost 1.
+ * each at most once: one that stands twice is refused, with equal costs too. Unnamed cells cost 1.
  *
  * Refusals: 10 to 15, 28, 16. */
 hall_measures_answer hall_read_file(const uint8_t *file, size_t file_length,

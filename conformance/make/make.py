@@ -2,9 +2,10 @@
 """Makes the conformance cases, ../cases/*.txt, from seeds.
 
 Owed answers are those of the Rust of docs/src (compare answer --router rust). Drawn cases are kept because a wrong
-reading (wrong/*.edit) answers them otherwise: for each wrong reading the shortest of those drawn, and for one of scaling also the shortest whose routes a program like hallroute prints otherwise. Listed cases come from
-listed.py. No case about another rule is one that a wrong tie answers otherwise. The status is not 0 if a wrong reading
-passes all cases of its group, or two cases are equal.
+reading (wrong/*.edit) answers them otherwise: for each wrong reading the shortest of those drawn, and for one of scaling
+also the shortest whose routes a program like hallroute prints otherwise. Listed cases come from listed.py. No case about
+another rule is one that a wrong tie answers otherwise. The status is not 0 if a wrong reading passes all cases of its
+group, or two cases are equal.
 
     python3 conformance/make/make.py [FOLDER]     writes into FOLDER, or over ../cases
 """

@@ -1,7 +1,7 @@
 -- 02, request 1, at work: one file in two orders, which meet the premises of `any-order`.
 use Prim.Native.Nat.{ℕ, zero, suc, _<_}
 use native.Mathlib.Omega.{arith}
-use mathlib.Core.Path.{_≡_, refl}
+use mathlib.Core.Path.{_≡_, refl, sym, _∙_}
 use mathlib.Core.List.{List, [], _∷_}
 use lib.ListN.{length}
 use Rattle.model.specs.Store.{entryCount, entryNumber, entryCost}
@@ -30,7 +30,7 @@ same-entries = record {
   back = both-in downwards upwards refl (record { place = 1; within = omega arith; number-is = refl; cost-is = refl }) (record { place = 0; within = omega arith; number-is = refl; cost-is = refl });
 }
 
--- so both files fill every list of 100 costs alike
-pub one-list : (list : List ℕ) → length list ≡ 100 → readInto upwards list ≡ readInto downwards list
+-- so both files fill any two lists of 100 costs alike
+pub one-list : (a b : List ℕ) → length a ≡ 100 → length b ≡ 100 → readInto upwards a ≡ readInto downwards b
 unfolding computing
-one-list list e = any-order upwards downwards list (rw e) (rw e) same-entries
+one-list a b la lb = any-order upwards downwards a b (la ∙ sym lb) (rw la) (rw lb) same-entries

@@ -1,4 +1,4 @@
--- 02, request 1: files in which a floor number stands twice, alone and beside other refusals, as one table. Each entry is proved by computation.
+-- 02, request 1: files in which a floor number stands twice, alone and beside other refusals, and files in which none does, as one table. Each entry is proved by computation.
 use Prim.Native.Nat.{ℕ}
 use mathlib.Core.Path.{_≡_, refl}
 use mathlib.Core.List.{List, [], _∷_, _++_}

@@ -16,8 +16,8 @@ pub fn sectors(m: Measures) -> usize
 
 // The cells of a sector.
 pub const SECTOR_CELLS: usize = 100;
-// The most that a hall has.
-pub const HALL_CELLS: usize = 100 * SECTOR_CELLS;
+// The most cells that a hall has.
+pub const MOST_CELLS: usize = 100 * SECTOR_CELLS;
 
 // How many cells a hall has.
 pub fn cells(m: Measures) -> usize

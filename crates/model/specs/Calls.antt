@@ -103,7 +103,7 @@ entryOff file k = leb (cells (measuresAt file)) (entryNumber file k)
 unfoldable pub entryAgain : List ℕ → ℕ → Bool
 entryAgain file k = any (entryNames file (entryNumber file k)) k
 
--- 15, 28 "after 15 and before 16", 16 "list length not 100 × sectors"
+-- 15; by 02, request 1, 28 "after 15 and before 16"; 16 "list length not 100 × sectors"
 unfoldable pub entriesNumber : List ℕ → ℕ → ℕ
 entriesNumber file size =
     refuse (any (entryOff file) (entryCount file)) 15

@@ -19,7 +19,7 @@ use Rattle.model.specs.Calls.{ifAccepted, formNumber, entryOff, entryAga
 use Rattle.model.specs.Refusals.{neither-refused}
 
 -- ---- the checks
--- what those of its form show once they are passed, and then all of them
+-- what 10 to 14 show of a file once they are passed, and what all its refusals do
 pub record Formed (file : List ℕ) : Type 0 where
   pub measures : Accepted (measuresAt file)
   pub head : 5 ≤ length file
@@ -69,7 +69,7 @@ pub names-other : (file : List ℕ) (n k : ℕ) → entryNames file n k ≡ fals
 unfolding entryNames
 names-other file n k e = eqb-false (entryNumber file k) n e
 
--- 28 is met exactly where a floor number stands at two places of the file
+-- the test of 28 holds exactly where a floor number stands at two places of the file
 pub record TwoPlaces (file : List ℕ) : Type 0 where
   pub earlier : ℕ
   pub later : ℕ
@@ -102,14 +102,14 @@ abbrev pub Unnamed : List ℕ → ℕ → Type 0
 Unnamed file n = (k : ℕ) → k < entryCount file → entryNumber file k ≢ n
 
 -- what the search finds: a cell has the cost of an entry of the cell, or no entry names it and it costs 1
-abbrev Sought : List ℕ → ℕ → Type 0
-Sought file n = EntryOf file n (costIn file n) ⊎ (Unnamed file n × (costIn file n ≡ 1))
+abbrev CostFound : List ℕ → ℕ → Type 0
+CostFound file n = EntryOf file n (costIn file n) ⊎ (Unnamed file n × (costIn file n ≡ 1))
 
-sought : (file : List ℕ) (n : ℕ) → Sought file n
+cost-found : (file : List ℕ) (n : ℕ) → CostFound file n
 unfolding costIn any
-sought file n = go (any (entryNames file n) (entryCount file)) refl
+cost-found file n = go (any (entryNames file n) (entryCount file)) refl
   where
-    go : (b : Bool) → any (entryNames file n) (entryCount file) ≡ b → Sought file n
+    go : (b : Bool) → any (entryNames file n) (entryCount file) ≡ b → CostFound file n
     go true e =
         let s = any-some (entryNames file n) (entryCount file) e in
         inl (record { place = first (entryNames file n) (entryCount file); within = s .0; number-is = names-own file n _ (s .1); cost-is = rw e })
@@ -125,9 +125,9 @@ pub record Filled (file : List ℕ) (size : ℕ) (out : List ℕ) : Type 0 where
 
 -- these say all of it: two such lists are one
 pub filled-only : (file : List ℕ) (size : ℕ) {a b : List ℕ} → Filled file size a → Filled file size b → a ≡ b
-filled-only file size {a} {b} p q = ext-getD 0 a b (p .long ∙ sym (q .long)) (λ n l. go n (omega (arith, p .long)) (sought file n))
+filled-only file size {a} {b} p q = ext-getD 0 a b (p .long ∙ sym (q .long)) (λ n l. go n (omega (arith, p .long)) (cost-found file n))
   where
-    go : (n : ℕ) → n < size → Sought file n → getD a n 0 ≡ getD b n 0
+    go : (n : ℕ) → n < size → CostFound file n → getD a n 0 ≡ getD b n 0
     go n l (inl e) = rw (← e .number-is) (p .named (e .place) (e .within) ∙ sym (q .named (e .place) (e .within)))
     go n l (inr u) = p .unnamed n l (u .0) ∙ sym (q .unnamed n l (u .0))
 
@@ -146,16 +146,16 @@ module _ (file : List ℕ) (size : ℕ) (r : Readable file size) where
 
   -- so each entry's cell has that entry's cost
   own-cost : (k : ℕ) → k < entryCount file → costIn file (entryNumber file k) ≡ entryCost file k
-  own-cost k l = go (sought file (entryNumber file k))
+  own-cost k l = go (cost-found file (entryNumber file k))
     where
-      go : Sought file (entryNumber file k) → costIn file (entryNumber file k) ≡ entryCost file k
+      go : CostFound file (entryNumber file k) → costIn file (entryNumber file k) ≡ entryCost file k
       go (inl e) = sym (e .cost-is) ∙ ap (entryCost file) (one-place (e .place) k (e .within) l (e .number-is))
       go (inr u) = absurd (u .0 k l refl)
 
   other-cost : (n : ℕ) → Unnamed file n → costIn file n ≡ 1
-  other-cost n u = go (sought file n)
+  other-cost n u = go (cost-found file n)
     where
-      go : Sought file n → costIn file n ≡ 1
+      go : CostFound file n → costIn file n ≡ 1
       go (inl e) = absurd (u (e .place) (e .within) (e .number-is))
       go (inr v) = v .1
 
@@ -189,6 +189,6 @@ refilled f g size {out} same p = record {
   unnamed = λ n l u. p .unnamed n l (λ k m h. let e = same .there k m in u (e .place) (e .within) (e .number-is ∙ h));
 }
 
--- two accepted files with the same entries, in any order, fill the same list
-pub any-order : (f g list : List ℕ) → readNumber f (length list) ≡ 0 → readNumber g (length list) ≡ 0 → SameEntries f g → readInto f list ≡ readInto g list
-any-order f g list a b same = filled-only g (length list) (refilled f g (length list) same (read-fills f list a)) (read-fills g list b)
+-- two accepted files with the same entries, in any order, fill the same list, whatever stood in the lists that they are read into
+pub any-order : (f g a b : List ℕ) → length a ≡ length b → readNumber f (length a) ≡ 0 → readNumber g (length b) ≡ 0 → SameEntries f g → readInto f a ≡ readInto g b
+any-order f g a b long p q same = filled-only g (length b) (rw (← long) (refilled f g (length a) same (read-fills f a p))) (read-fills g b q)

@@ -80,7 +80,7 @@ entryCost file k = getD file (5 + 2 * entryCount file + k) 0
 unfoldable pub entryNames : List ℕ → ℕ → ℕ → Bool
 entryNames file n k = eqb (entryNumber file k) n
 
--- 01, "Unnamed cells cost 1"; 02, request 1, "01's rule about the later entry ends". A cell has the cost of the entry that names it; an accepted file has no second one, and FileCosts shows that no order comes in.
+-- 01, "Unnamed cells cost 1"; 02, request 1, "01's rule about the later entry ends". A cell has the cost of the first entry that names it; an accepted file has no second one, so that the order of the entries has no part in it (FileCosts).
 unfoldable pub costIn : List ℕ → ℕ → ℕ
 costIn file n =
     let k = first (entryNames file n) (entryCount file) in

@@ -14,7 +14,7 @@ ghost use Rattle.model.specs.FileCosts.{Readable};
 ghost use Rattle.store.specs.Entries.{putEntry, meet};
 use crate::reading::measures_at;
 use crate::reading::u16_at;
-use fields::sectors::HALL_CELLS;
+use fields::sectors::MOST_CELLS;
 use fields::sectors::cells;
 
 // Whether a file counts more than 10,000 entries.
@@ -75,7 +75,7 @@ pub fn any_again(file: &[u8]) -> bool
     ensures { λ r. ⌜ r ≡ any (entryAgain (now (file .entry))) (entryCount (now (file .entry))) ⌝ }
 {
     let n = u16_at(file, 3);
-    let mut seen: [u8; HALL_CELLS] = [0; HALL_CELLS];
+    let mut seen: [u8; MOST_CELLS] = [0; MOST_CELLS];
     let mut k = 0;
     while k < n {
         if met_before(file, k, &mut seen) {

@@ -1,4 +1,4 @@
-//! The Rust of docs/src as a router: its answers, and 01's refusals around them.
+//! The Rust of docs/src as a router: its answers, and the refusals of 01 and 02 around them.
 
 use calls::{Counted, Judge, Measures, Routed, Router, Step, Window, best};
 use reference_standin::Hall as Standin;
