@@ -1,3 +1,5 @@
 // Theorems over the definitions of `model`: specs/ holds them.
 
+#![tactic(auto)]
+
 pub fn nothing() {}

@@ -1,4 +1,6 @@
 // 01, item 6: the f32 values of a plan, and the whole numbers next to a quotient of them.
+#![tactic(auto)]
+
 ghost use Rattle.std.specs.Prelude.{◌≡◌, not, ◌&&◌, min};
 ghost use Rattle.std.specs.Float.Ieee.Scale.{finite};
 ghost use Rattle.model.specs.Measuring.{cut_down, round_up};

@@ -1,5 +1,7 @@
 // Replays the list that the oracle wrote, standard input, one line for each entry: the floor of document 01 that is not starred, then
 // what the Rust was asked. An entry is its kind in one byte and what is asked. Numbers go low byte first.
+#![tactic(auto)]
+
 mod halls;
 mod plans;
 

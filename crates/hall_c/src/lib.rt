@@ -1,4 +1,6 @@
 // The calls of documents 01 and 02 for C, C++ and Rust, on numbers and lent bytes. A slice is two arguments there: the bytes, and how many they are.
+#![tactic(auto)]
+
 ghost use Rattle.std.specs.Prelude.{◌≡◌, ◌/◌, length};
 ghost use Rattle.model.specs.Calls.{plan_answer, read_answer, read_into, measures_of, build_number, build_into, check_number, change_number, change_into, route_answer, route_flat, windows_answer, windows_flat, write_answer, write_into};
 ghost use Rattle.hall_c.specs.Answers.{version, dimensions, flat_measures, flat_route, flat_windows, flat_file};

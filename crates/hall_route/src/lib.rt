@@ -1,4 +1,6 @@
 // The route call, for every input: document 01, "Calls and their numbers, in order".
+#![tactic(auto)]
+
 ghost use Rattle.std.specs.Prelude.{◌≡◌, ◌/◌, length};
 ghost use Rattle.model.specs.Calls.{route_flat};
 ghost use Rattle.model.specs.Answers.{RouteAnswers};

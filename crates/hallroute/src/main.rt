@@ -1,5 +1,7 @@
 // The program of document 01: a hall file and pairs of source and goal on standard input, a line for each pair on standard output.
 // An input that cannot be read, or a line that cannot be written, is said on standard error, and is the last thing done.
+#![tactic(auto)]
+
 ghost use Rattle.std.specs.Prelude.{◌≡◌, ◌≤◌, length};
 
 mod lines;

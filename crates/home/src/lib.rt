@@ -1,4 +1,6 @@
 // Request 2 of document 02 of the running code: a floor is written as a hall file, and the file is read.
+#![tactic(auto)]
+
 ghost use Rattle.std.specs.Prelude.{◌≡◌, length};
 ghost use Rattle.model.specs.Calls.{write_into};
 ghost use Rattle.home.specs.Home.{ComesBack};

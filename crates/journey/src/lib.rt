@@ -1,4 +1,6 @@
 // Demand 3 of the running code: a hall is built, a list of calls is made in turn on its store, and the last route call answers.
+#![tactic(auto)]
+
 ghost use Rattle.std.specs.Prelude.{◌≡◌, ◌/◌, length};
 ghost use Rattle.model.specs.Calls.{measures_of, route_flat};
 ghost use Rattle.model.specs.Answers.{RouteAnswers};

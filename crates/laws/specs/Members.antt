@@ -57,6 +57,7 @@ module _ {A B : Type 0} (f : A → List B) where
 
   lists_are : (xs : List A) {y : B} → In y (flat_map f xs) → (x : A) × In x xs × In y (f x)
   unfolding flat_map
+  lists_are [] {y = y} i = elim i [ ]
   lists_are (x ∷ xs) {y} i = go (Memᴰ.append_cases (f x) i) (λ j. lists_are xs j)
     where
       go : In y (f x) ⊎ In y (flat_map f xs) → (In y (flat_map f xs) → (z : A) × In z xs × In y (f z)) → (z : A) × In z (x ∷ xs) × In y (f z)

@@ -203,6 +203,7 @@ count_room p n v l a = omega (arith, count_more p (λ _. true) (λ v e. refl) n 
 -- ---- the list
 pub passing_is : (p : ℕ → Bool) (n a : ℕ) {v : ℕ} → In v (passing p n a) → (a ≤ v) × (v < a + n) × (p v ≡ true)
 unfolding passing
+passing_is p zero a {v = v} i = elim i [ ]
 passing_is p (suc n) a {v} i = go (p a) refl i (λ j. passing_is p n (suc a) j)
   where
     go : (t : Bool) → p a ≡ t → In v (pick t (a ∷ passing p n (suc a)) (passing p n (suc a)))

@@ -1,21 +1,23 @@
 // The structs and enums of the calls. What they mean is defined in specs/, file by file in the order of document 01.
 
 // Item 1: a cell of a sector, column and row 0 to 9.
-#[derive(Drop)]
+#![tactic(auto)]
+
+#[derive(Clone, Copy)]
 pub struct FieldCell {
     pub column: u8,
     pub row: u8,
 }
 
 // Item 3: a sector by column and row.
-#[derive(Drop)]
+#[derive(Clone, Copy)]
 pub struct SectorID {
     pub column: u8,
     pub row: u8,
 }
 
 // What a hall is built by: columns and rows of sectors, and the trolley's scale.
-#[derive(Drop)]
+#[derive(Clone, Copy)]
 pub struct Measures {
     pub columns: u8,
     pub rows: u8,
@@ -23,7 +25,7 @@ pub struct Measures {
 }
 
 // Item 4: a step has a sector, a goal index and a window or none. Side 0 to 3 is N, E, S, W; side 4 says that there is no window, and then first and last are 0.
-#[derive(Drop)]
+#[derive(Clone, Copy)]
 pub struct RouteStep {
     pub column: u8,
     pub row: u8,
@@ -34,7 +36,7 @@ pub struct RouteStep {
 }
 
 // Item 5: the eight directions of a walk.
-#[derive(Drop)]
+#[derive(Clone, Copy)]
 pub enum CompassDir {
     North,
     East,
@@ -47,7 +49,7 @@ pub enum CompassDir {
 }
 
 // The four sides of a sector, or of a cell.
-#[derive(Drop)]
+#[derive(Clone, Copy)]
 pub enum Side {
     North,
     East,
@@ -56,7 +58,7 @@ pub enum Side {
 }
 
 // Item 5: where steps from a cell land: the index in the sector reached, and how far that sector is on each axis, plus one (0 back, 1 the same, 2 on).
-#[derive(Drop)]
+#[derive(Clone, Copy)]
 pub struct Landing {
     pub index: u8,
     pub east: u8,
@@ -64,7 +66,7 @@ pub struct Landing {
 }
 
 // Item 6: sizes, unit and radius.
-#[derive(Drop)]
+#[derive(Clone, Copy)]
 pub struct Dimensions {
     pub size_x: f32,
     pub size_y: f32,
@@ -73,7 +75,7 @@ pub struct Dimensions {
 }
 
 // Item 8: a window of a side, by the indices of its first and last cell; side 0 to 3 is N, E, S, W.
-#[derive(Drop)]
+#[derive(Clone, Copy)]
 pub struct PortalWindow {
     pub first: u8,
     pub last: u8,
@@ -81,21 +83,21 @@ pub struct PortalWindow {
 }
 
 // Item 8: the ten border cells of a side, and those of the side that it faces.
-#[derive(Drop)]
+#[derive(Clone, Copy)]
 pub struct BorderCells {
     pub own: [FieldCell; 10],
     pub facing: [FieldCell; 10],
 }
 
 // What plan and read file answer.
-#[derive(Drop)]
+#[derive(Clone, Copy)]
 pub enum Measured {
     Accepted(Measures),
     Refused(u8),
 }
 
 // What route answers: the count of its steps, leg and run.
-#[derive(Drop)]
+#[derive(Clone, Copy)]
 pub enum Routed {
     Route { steps: u32, leg: u32, run: u32 },
     NoRoute,
@@ -103,14 +105,14 @@ pub enum Routed {
 }
 
 // What windows answers: how many there are.
-#[derive(Drop)]
+#[derive(Clone, Copy)]
 pub enum Listed {
     Windows(u8),
     Refused(u8),
 }
 
 // What write file answers: how many bytes the file has.
-#[derive(Drop)]
+#[derive(Clone, Copy)]
 pub enum Written {
     File(u32),
     Refused(u8),

@@ -1,4 +1,6 @@
 // A hall is built, and a list of calls is made in turn on its store: what a claim about a hall "built, or changed since" begins with.
+#![tactic(auto)]
+
 ghost use Rattle.std.specs.Prelude.{◌≡◌, ◌/◌, length};
 ghost use Rattle.model.specs.Calls.{measures_of, build_number, store_after_call, store_after};
 ghost use Rattle.reach.specs.Reach.{call_of, calls_in, steps_after_call, steps_after, reach_into, reach_steps, Reaches};

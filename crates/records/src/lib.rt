@@ -1,4 +1,6 @@
 // The route call with a lent list of step records: document 01, "Steps go to a lent list of step records".
+#![tactic(auto)]
+
 ghost use Rattle.std.specs.Prelude.{◌≡◌, ◌++◌, ◌*◌, ◌≤◌, min, length, drop};
 ghost use Rattle.model.specs.FlatSteps.{steps_in};
 ghost use Rattle.model.specs.Calls.{route_answer, route_steps};

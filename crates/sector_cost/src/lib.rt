@@ -1,4 +1,6 @@
 // Scaling, and rescaling around a changed cell: document 01, item 7 and "A change". Costs are lists by floor number; walks go over the board.
+#![tactic(auto)]
+
 pub mod nearby;
 
 ghost use Rattle.std.specs.Prelude.{◌≡◌, ◌+◌, ◌*◌, ◌≤◌, ◌<◌, length};
