@@ -151,9 +151,9 @@ fn change_lists(
     requires { Changeable m st.now n × (length base.old ≡ cells m) × (length scaled.old ≡ cells m) × (length marks.old ≡ sectors m * 4) }
     ensures { hall_of m base.new scaled.new marks.new ≡ changed (decode st.now) n cost }
 {
-    bytes::copy(base_part(st, m), base);
+    base.copy_from_slice(base_part(st, m));
     base[n] = cost;
-    bytes::copy(scaled_part(st, m), scaled);
+    scaled.copy_from_slice(scaled_part(st, m));
     rescale(m, base, n / 100, scaled);
     take_marks(st, m, marks);
     remark(m, scaled, n / 100, marks);

@@ -8,7 +8,7 @@ pub fn put_part(list: &[u8], a: usize, to: &mut [u8])
     ensures { to.new ≡ placed a list.now to.old }
 {
     let e = a + list.len();
-    bytes::copy(list, &mut to[a..e]);
+    to[a..e].copy_from_slice(list);
 }
 
 // Puts the n entries from place a on in place of those from place b on.

@@ -72,7 +72,7 @@ pub fn scale_all_costfields(m: Measures, base: &[u8], scaled: &mut [u8])
     requires { Costs m base.now × Costs m scaled.old }
     ensures { scaled.new ≡ scale_floor m base.now }
 {
-    bytes::copy(base, scaled);
+    scaled.copy_from_slice(base);
     if m.scale == 1 {
         return;
     }
