@@ -112,20 +112,11 @@ unfolding region
 region_at a n p q r ep eq = simp (drop_at p (q ++ r) a ep, take_at q r n eq)
 
 -- A copy from the front is whole.
-copy_end : (k : ℕ) (s d : List ℕ) → length s ≤ k → length d ≡ length s → take k s ++ drop k d ≡ s
-copy_end k s d h e = rw (take_all k s h, drop_of_length-le d {i = k} (omega arith)) (append-nil s)
 
--- what a copy leaves in a list as long, and in a part of a list that came back from it
-pub copied : {ys : List ℕ} (from to : List ℕ) → length to ≡ length from → ys ≡ take (length from) from ++ drop (length from) to → ys ≡ from
-copied from to e h = h ∙ copy_end (length from) from to (omega arith) e
-
-pub part_put : (a : ℕ) (xs list : List ℕ) {ys : List ℕ} → a + length list ≤ length xs
-    → ys ≡ take (length list) list ++ drop (length list) (take (a + length list - a) (drop a xs)) → put_mid a (a + length list - a) xs ys ≡ placed a list xs
+-- a list as long as the part, put in its place
+pub part_put : (a : ℕ) (xs list : List ℕ) {ys : List ℕ} → ys ≡ list → put_mid a (a + length list - a) xs ys ≡ placed a list xs
 unfolding placed
-part_put a xs list {ys} fits h =
-    let cut : List ℕ = take (a + length list - a) (drop a xs) in
-    let same : length cut ≡ length list = simp (length-take, length-drop) (omega arith) in
-    within_came a (length list) (a + length list - a) (λ old. list) xs ys (add-sub_cancel_left a (length list)) (copied list cut same h)
+part_put a xs list {ys} same = within_came a (length list) (a + length list - a) (λ old. list) xs ys (add-sub_cancel_left a (length list)) same
 
 -- four elements set at the front
 pub header_set : (c r k : ℕ) (xs : List ℕ) → 4 ≤ length xs → set (set (set (set xs 0 c) 1 r) 2 k) 3 0 ≡ (c ∷ r ∷ k ∷ 0 ∷ []) ++ drop 4 xs
