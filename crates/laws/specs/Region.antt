@@ -111,8 +111,6 @@ pub region_at : (a n : ℕ) (p q r : List ℕ) → length p ≡ a → length q �
 unfolding region
 region_at a n p q r ep eq = simp (drop_at p (q ++ r) a ep, take_at q r n eq)
 
--- A copy from the front is whole.
-
 -- a list as long as the part, put in its place
 pub part_put : (a : ℕ) (xs list : List ℕ) {ys : List ℕ} → ys ≡ list → put_mid a (a + length list - a) xs ys ≡ placed a list xs
 unfolding placed

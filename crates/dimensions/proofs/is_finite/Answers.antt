@@ -3,8 +3,7 @@ use mathlib.Core.Path.{◌≡◌, refl}
 use mathlib.Core.Bool.{true, false, ◌&&◌}
 use lib.Ieee.{Float, nan, inf, fin, lt, of_bits, nan_bits}
 use lib.Ieee.Scale.{finite}
-use Rattle.dimensions.proofs.is_finite.Statement.{statement}
-use Rattle.dimensions.proofs.is_finite.Tie as tie
+use Rattle.dimensions.proofs.is_finite.Goals as goal
 
 between : (x : Float) → lt (inf true) x && lt x (inf false) ≡ finite x
 unfolding lt
@@ -13,17 +12,14 @@ between (inf true) = refl
 between (inf false) = refl
 between (fin s m e) = refl
 
-float-from-bits-bottom : tie.Need-float-from-bits-bottom
+pub float_from_bits-bottom : goal.float_from_bits-bottom
 unfolding nan_bits
-float-from-bits-bottom c = tt
+float_from_bits-bottom c = tt
 
-float-from-bits-top : tie.Need-float-from-bits-top
+pub float_from_bits-top : goal.float_from_bits-top
 unfolding nan_bits
-float-from-bits-top c = tt
+float_from_bits-top c = tt
 
-returns : tie.Need-returns
+pub returns : goal.returns
 unfolding of_bits
 returns c = between c.args.x
-
-pub is-finite-spec : {M : Type 1} → statement M
-is-finite-spec = tie.close (tie.spec float-from-bits-bottom float-from-bits-top returns)

@@ -1,0 +1,13 @@
+-- `any_large` answers whether a mark is above 1,023: no mark passed is.
+use Prim.Native.Nat.{◌-◌}
+use Rattle.laws.specs.Search.{Clear, seeking}
+use Rattle.model.specs.Store.{marks_in}
+use Rattle.store.specs.Ends.{is_above}
+use borrow.Author.Rules.{rules}
+use Rattle.store.proofs.check.any_large.Goals as goal
+
+pub returns-then-is_above : goal.returns-then-is_above
+returns-then-is_above c = rw (← c.sectors-n.ensures) (search (rules, seeking))
+
+pub returns : goal.returns
+returns c = rw (← c.sectors-n.ensures) (search (rules, seeking))

@@ -1,0 +1,26 @@
+-- `end_line` answers the line of sectors at a side's end: each return goes by its side.
+use native.Mathlib.Omega.{arith}
+use Prim.Native.Nat.{◌-◌}
+use Rattle.model.specs.declared.Side.TheVariants.{North, East, South, West}
+use Rattle.fields.specs.Bounds.{bytes_product}
+use Rattle.store.specs.Ends.{end_line, line_is}
+use borrow.Author.Rules.{rules}
+use Rattle.store.proofs.check.end_line.Goals as goal
+
+pub returns-in-North : goal.returns-in-North
+unfolding end_line
+returns-in-North c = let s = c in rw c.in-North.is (line_is s.args.m North (omega arith) (omega arith) (omega arith))
+
+pub returns-in-East : goal.returns-in-East
+unfolding end_line
+returns-in-East c =
+    let s = c in
+    rw (c.in-East.is, s.wide-columns.ensures.0, c.wide-rows.ensures.0) (line_is s.args.m East (omega arith) (omega arith) (omega arith))
+
+pub returns-in-South : goal.returns-in-South
+unfolding end_line
+returns-in-South c = let s = c in rw c.in-South.is (line_is s.args.m South (omega arith) (omega arith) (omega arith))
+
+pub returns-in-West : goal.returns-in-West
+unfolding end_line
+returns-in-West c = let s = c in rw c.in-West.is (line_is s.args.m West (omega arith) (omega arith) (omega arith))

@@ -1,0 +1,11 @@
+-- `base_part` cuts the base costs out.
+use native.Mathlib.Omega.{arith}
+use lib.ListN.{length-take, length-drop}
+use Prim.Native.Nat.{◌+◌}
+use Rattle.store.specs.Layout.{part_is}
+use borrow.Author.Rules.{rules}
+use Rattle.store.proofs.layout.base_part.Goals as goal
+
+pub returns : goal.returns
+returns c =
+    (part_is 4 _ _ {b = 4} {e = 4 + c.cells-end.result} (omega arith) (omega arith), simp (length-take, length-drop) (omega arith))

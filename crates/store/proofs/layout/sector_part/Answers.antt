@@ -1,0 +1,13 @@
+-- `sector_part` cuts the scaled costs of a sector out.
+use Prim.Native.Nat.{◌+◌, ◌*◌}
+use native.Mathlib.Omega.{arith}
+use lib.ListN.{length-take, length-drop}
+use Rattle.store.specs.Layout.{sector_is}
+use borrow.Author.Rules.{rules}
+use Rattle.store.proofs.layout.sector_part.Goals as goal
+
+pub returns : goal.returns
+returns c =
+    let s = c in
+    let start = 4 + c.cells.result + s.args.s * 100 in
+    (sector_is s.args.m _ s.args.s {b = start} {e = start + 100} (omega arith) (omega arith) s.requires.1 s.requires.2, simp (length-take, length-drop) (omega arith))
