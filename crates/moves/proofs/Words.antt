@@ -156,8 +156,8 @@ side_bit l d i = sides (word_at l d (i / 50)) (spot i) (from_other l d 11 (i / 5
 abbrev on_line : ℕ → ℕ
 on_line i = i / 10 * 11 + i % 10
 
-on_line : (i : ℕ) → on_line i ≡ i / 50 * 55 + spot i
-on_line i = let row : i / 10 ≡ i / 50 * 5 + i % 50 / 10 = omega arith in go (i / 10) (i / 50) (i % 50 / 10) (i % 10) row
+on_line_lem : (i : ℕ) → on_line i ≡ i / 50 * 55 + spot i
+on_line_lem i = let row : i / 10 ≡ i / 50 * 5 + i % 50 / 10 = omega arith in go (i / 10) (i / 50) (i % 50 / 10) (i % 10) row
   where
     go : (y h z x : ℕ) → y ≡ h * 5 + z → y * 11 + x ≡ h * 55 + (z * 11 + x)
     go y h z x e = omega arith
@@ -281,8 +281,8 @@ module _ (l : List ℕ) (d : ℕ) (out : (h k : ℕ) → h < 2 → Out k → bit
         let q : ℕ = on_line (beside i k) in
         let o = line_over k i (beside i k) (beside_over i k low h) in
         side_is k
-        ∙ shifted_there (sense k) (reach (axis k)) (i / 50) (spot i) q (reach_low (axis k)) (omega arith) (omega (arith, spot_low i)) (line_low (beside i k) h) (rw (on_line i) at o)
-        ∙ sym (place (beside i k / 50) (spot (beside i k)) q (omega (arith, spot_low (beside i k))) (on_line (beside i k)))
+        ∙ shifted_there (sense k) (reach (axis k)) (i / 50) (spot i) q (reach_low (axis k)) (omega arith) (omega (arith, spot_low i)) (line_low (beside i k) h) (rw (on_line_lem i) at o)
+        ∙ sym (place (beside i k / 50) (spot (beside i k)) q (omega (arith, spot_low (beside i k))) (on_line_lem (beside i k)))
 
     -- and else 0
     pub side_none : (side : Side) → 100 ≤ beside i side → side_bit l d i side ≡ 0
@@ -292,9 +292,9 @@ module _ (l : List ℕ) (d : ℕ) (out : (h k : ℕ) → h < 2 → Out k → bit
         bit = bit_at (shifted (sense k) (reach (axis k)) (word_at l d (i / 50))) (spot i) + from_other l d (reach (axis k)) (i / 50) (spot i) (sense k)
 
         go : Past (sense k) (reach (axis k)) (on_line i) ⊎ ((q : ℕ) × (q < 110) × (q % 11 ≡ 10) × On (sense k) (reach (axis k)) (on_line i) q) → bit ≡ 0
-        go (inl p) = shifted_none (sense k) (reach (axis k)) (i / 50) (spot i) (reach_low (axis k)) (omega arith) (omega (arith, spot_low i)) (rw (on_line i) at p)
+        go (inl p) = shifted_none (sense k) (reach (axis k)) (i / 50) (spot i) (reach_low (axis k)) (omega arith) (omega (arith, spot_low i)) (rw (on_line_lem i) at p)
         go (inr p) =
-            shifted_there (sense k) (reach (axis k)) (i / 50) (spot i) p.0 (reach_low (axis k)) (omega arith) (omega (arith, spot_low i)) p.1 (rw (on_line i) at p.3)
+            shifted_there (sense k) (reach (axis k)) (i / 50) (spot i) p.0 (reach_low (axis k)) (omega arith) (omega (arith, spot_low i)) p.1 (rw (on_line_lem i) at p.3)
             ∙ between p.0 p.1 p.2
 
 -- bit k of a grown word n: the open cells that are in the word or in one beside it

@@ -1,0 +1,13 @@
+-- `row_mark` holds the cells of the row from column x on.
+use Prim.Native.Nat.{◌+◌, ◌*◌}
+use borrow.Author.Rules.{rules}
+use Rattle.model.specs.Costs.{open_at}
+use Rattle.moves.specs.Levels.{open_row}
+use Rattle.fields.specs.Bits.{Marked, marking}
+use Rattle.moves.proofs.open_cells.row_mark.Given as goal
+
+abbrev pub invariant-loop-x : goal.invariant-loop-x
+invariant-loop-x l = Marked (λ k. open_at l.costs (l.y * 10 + k)) l.x l.mark
+
+abbrev pub decreases-loop-x : goal.decreases-loop-x
+decreases-loop-x l = l.x

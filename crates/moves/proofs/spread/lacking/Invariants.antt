@@ -1,0 +1,14 @@
+-- `lacking` counts the levels without the cell.
+use Prim.Native.Nat.{ℕ, ◌-◌, ◌≤◌}
+use native.Mathlib.Numerals.{add-one}
+use native.Mathlib.Omega.{arith}
+use mathlib.Core.Path.{◌≡◌, refl, ap, ◌∙◌}
+use Rattle.moves.specs.Levels.{missing}
+use borrow.Author.Rules.{rules}
+use Rattle.moves.proofs.spread.lacking.Given as goal
+
+abbrev pub invariant-loop-d : goal.invariant-loop-d
+invariant-loop-d l = (l.d ≤ l.n) × (l.lack ≤ l.d) × (l.lack ≡ missing l.levels l.d l.i)
+
+abbrev pub decreases-loop-d : goal.decreases-loop-d
+decreases-loop-d l = l.n - l.d

@@ -1,0 +1,15 @@
+-- `show_floor` shows the floor row by row; before its first row and after its last there are walls.
+use Prim.Native.Nat.{◌-◌, ◌*◌, ◌≤◌}
+use Rattle.walks.specs.Showing.{Showing, row_start, floor_start, floor_end}
+use borrow.Author.Rules.{rules}
+use Rattle.walks.proofs.board.show_floor.Goals as goal
+
+pub loop-y-init : goal.loop-y-init
+loop-y-init c =
+    let start = c in
+    (search rules, floor_start start.requires.0 start.requires.1)
+
+pub returns : goal.returns
+returns c =
+    let start = c in
+    floor_end start.requires.0 _ (search rules) c.loop-y.invariant.1

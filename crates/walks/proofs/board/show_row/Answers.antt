@@ -1,0 +1,11 @@
+-- `show_row` shows a row ten cells at a time; past its last sector there are walls.
+use Prim.Native.Nat.{◌+◌, ◌-◌, ◌*◌, ◌≤◌}
+use native.Mathlib.Omega.{arith}
+use Rattle.walks.specs.Showing.{Showing, showing_at, row_start, row_end}
+use borrow.Author.Rules.{rules}
+use Rattle.walks.proofs.board.show_row.Goals as goal
+
+pub returns : goal.returns
+returns c =
+    let start = c in
+    row_end start.requires.0 start.args.y (search rules) (showing_at c.loop-c.invariant.1 (omega arith))

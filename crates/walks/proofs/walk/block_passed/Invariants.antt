@@ -1,0 +1,16 @@
+-- `block_passed` is the run of its steps, in the list and on the board.
+use Prim.Native.Nat.{◌+◌, ◌-◌}
+use native.Mathlib.Omega.{arith}
+use mathlib.Core.Path.{◌∙◌}
+use Rattle.laws.specs.Fold.{Ran, ran_turn, counting}
+use Rattle.model.specs.Scaling.{block_step}
+use Rattle.fields.specs.Bounds.{steps_small}
+use Rattle.walks.specs.Walks.{Turned, turned_none, turned_more, block_spot, step_is, spot_is}
+use borrow.Author.Rules.{rules}
+use Rattle.walks.proofs.walk.block_passed.Given as goal
+
+abbrev pub invariant-loop-k : goal.invariant-loop-k
+invariant-loop-k l = Ran (block_step l.s l.i l.d) l.n l.k l.initial.scaled l.scaled × Ran (block_spot l.o l.i l.d) l.n l.k l.initial.board l.board × Turned l.i l.d l.k l.x l.y
+
+abbrev pub decreases-loop-k : goal.decreases-loop-k
+decreases-loop-k l = l.n - l.k
