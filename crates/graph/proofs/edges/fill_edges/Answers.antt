@@ -1,0 +1,22 @@
+-- `fill_edges` fills the table sector by sector. The loop's invariant: the weights of the sectors before s stand in it.
+use native.Mathlib.Omega.{arith}
+use mathlib.Core.Path.{◌≡◌, sym, ap, ◌∙◌}
+use Prim.Native.Nat.{ℕ, ◌-◌, ◌*◌, ◌≤◌}
+use borrow.Author.Rules.{rules}
+use Rattle.laws.specs.Table.{tabled_none, tabled_at}
+use Rattle.model.specs.Sectors.{sectors}
+use Rattle.model.specs.Store.{decode}
+use Rattle.model.specs.Portals.{sector_arcs}
+use Rattle.graph.specs.EdgeTable.{Filled, filled_all}
+use Rattle.graph.specs.Reading.{accepted_of, measures_are}
+use Rattle.graph.proofs.edges.fill_edges.Goals as goal
+use Rattle.graph.proofs.edges.fill_edges.Goals.{After-sectors-n}
+
+are : (c : After-sectors-n) → sectors (decode c.args.st.now).measures ≡ sectors c.args.m
+are c = ap sectors (measures_are c.requires.0)
+
+pub loop-s-init : goal.loop-s-init
+loop-s-init c = (omega arith, tabled_none _ _ _ (c.requires.1 ∙ ap (λ (k : ℕ). k * sector_arcs) (sym (are c))))
+
+pub returns : goal.returns
+returns c = filled_all (decode c.args.st.now) c.loop-s.invariant.1 (omega (arith, c.loop-s-test.false, are (goal.at.returns c).After-sectors-n, c.sectors-n.ensures))

@@ -1,0 +1,66 @@
+-- `fill_number` fills the places of one number, by whether it is a portal's.
+use native.Mathlib.Omega.{arith}
+use mathlib.Core.Path.{◌≡◌, ap, ◌∙◌}
+use Prim.Native.Nat.{ℕ, ◌+◌, ◌*◌, ◌≤◌, ◌<◌}
+use lib.ListN.{length}
+use Rattle.model.specs.Sectors.{sectors, floor_number, sector_of, costs_of}
+use Rattle.model.specs.Halls.{Hall}
+use Rattle.model.specs.Portals.{sector_portals, hall_portals, sector_arcs, portal_sector}
+use Rattle.model.specs.Store.{decode}
+use Rattle.moves.specs.Levels.{open_words}
+use Rattle.graph.specs.Reading.{accepted_of, fits_of, measures_are}
+use Rattle.graph.specs.Weights.{mids_long, own_none, own_some, moves_own, weight_none, weight_by}
+use borrow.Author.Rules.{rules}
+use Rattle.graph.proofs.edges.fill_number.Goals as goal
+use Rattle.graph.proofs.edges.fill_number.Goals.{Start}
+
+abbrev H : Start → Hall
+H c = decode c.args.st.now
+
+are : (c : Start) → sectors (H c).measures ≡ sectors c.args.m
+are c = ap sectors (measures_are c.requires.opened.0)
+
+-- the places stand in the table, and in the graph
+few : (c : Start) → c.args.p < hall_portals
+few c = omega (arith, (accepted_of c.requires.opened.0).few_sectors, c.requires.opened.1)
+
+room : (c : Start) → c.args.p * sector_portals + sector_portals ≤ length c.args.table.now
+room c = omega (arith, c.requires.opened.3.long, are c, c.requires.opened.1)
+
+inside : (c : Start) (k : ℕ) → k < sector_portals → c.args.p * sector_portals + k < sectors (H c).measures * sector_arcs
+inside c k l = omega (arith, are c, c.requires.opened.1)
+
+mids-20 : (c : Start) → length c.args.mids.now ≡ sector_portals
+mids-20 c = mids_long (H c) c.args.p c.requires.opened.2
+
+pub bounds-mids-p : goal.bounds-mids-p
+bounds-mids-p c = omega (arith, mids-20 (goal.at.bounds-mids-p c).Start)
+
+pub clear_places-requires : goal.clear_places-requires
+clear_places-requires c = (few (goal.at.clear_places-requires c).Start, room (goal.at.clear_places-requires c).Start)
+
+pub returns-then-mid-ge-NO_CROSSING : goal.returns-then-mid-ge-NO_CROSSING
+returns-then-mid-ge-NO_CROSSING c =
+    let at = c in
+    c.clear_places.ensures.grown _ _ at.requires.opened.3
+    (λ k l. weight_none (H at) at.args.p k l (inside (goal.at.returns-then-mid-ge-NO_CROSSING c).Start k l) (own_none (H at) at.args.p at.requires.opened.2 (fits_of at.requires.opened.0) c.if-mid-ge-NO_CROSSING.true))
+
+pub fill_places-requires : goal.fill_places-requires
+fill_places-requires c =
+    let spread = c.moves_from-n.ensures in
+    let at = c in
+    (spread.long, spread.few, mids-20 (goal.at.fill_places-requires c).Start, few (goal.at.fill_places-requires c).Start, room (goal.at.fill_places-requires c).Start)
+
+pub returns : goal.returns
+returns c =
+    let spread = c.moves_from-n.ensures in
+    let found = c.wide in
+    let sector = c in
+    let at = sector in
+    let p = at.args.p in
+    let own = own_some (H at) p at.requires.opened.2 sector.if-mid-ge-NO_CROSSING.false in
+    let moves =
+    moves_own (H at) p found.result (ap (λ (s : ℕ). floor_number s found.result) sector.portal_sector.ensures) (found.ensures.0 ∙ own.1)
+    (omega (arith, found.ensures.0, sector.if-mid-ge-NO_CROSSING.false)) spread.found in
+    c.fill_places.ensures.grown _ _ at.requires.opened.3
+    (λ k l. weight_by (H at) p k l (inside (goal.at.returns c).Start k l) (fits_of at.requires.opened.0) own.0 moves at.requires.opened.2 c.outer_edge-outer.ensures)

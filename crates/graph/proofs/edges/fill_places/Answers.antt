@@ -1,0 +1,16 @@
+-- `fill_places` takes the edge at each place of one portal.
+use native.Mathlib.Omega.{arith}
+use Prim.Native.Nat.{◌-◌}
+use lib.ListN.{get_or}
+use Rattle.model.specs.Portals.{sector_portals, portal_place}
+use Rattle.moves.specs.Levels.{moves_in}
+use Rattle.graph.specs.EdgeTable.{Row, row_none, row_more, row_all}
+use Rattle.graph.specs.Weights.{edge_by}
+use borrow.Author.Rules.{rules}
+use Rattle.graph.proofs.edges.fill_places.Goals as goal
+
+pub loop-c-preserved : goal.loop-c-preserved
+loop-c-preserved c = row_more c.loop-c.invariant c.loop-c-test.true c.requires.4 c.edge_at.ensures
+
+pub returns : goal.returns
+returns c = row_all c.loop-c.invariant c.loop-c-test.false

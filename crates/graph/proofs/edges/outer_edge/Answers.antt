@@ -1,0 +1,32 @@
+-- `outer_edge` answers by the sector beyond and the facing portal.
+use native.Mathlib.Omega.{arith}
+use borrow.Author.Tests.{not-true, not-false}
+use mathlib.Core.Path.{refl}
+use mathlib.Core.Bool.{true, false}
+use borrow.Author.Rules.{rules}
+use Rattle.graph.specs.Reading.{accepted_of}
+use Rattle.graph.specs.Weights.{outer_is}
+use Rattle.graph.proofs.edges.outer_edge.Goals as goal
+
+pub returns-then-not-has_beyond : goal.returns-then-not-has_beyond
+returns-then-not-has_beyond c =
+    let side = c in
+    let start = side in
+    outer_is start.requires.0 start.args.p false _ side.portal_sector.ensures side.portal_side.ensures c.has_beyond.ensures
+    c.if-not-has_beyond.true refl refl refl
+
+pub returns-then-is_portal : goal.returns-then-is_portal
+returns-then-is_portal c =
+    let at = c in
+    let side = at in
+    let start = side in
+    outer_is start.requires.0 start.args.p true true side.portal_sector.ensures side.portal_side.ensures at.has_beyond.ensures at.if-not-has_beyond.false
+    c.facing.ensures c.is_portal.ensures c.if-is_portal.true
+
+pub returns : goal.returns
+returns c =
+    let at = c in
+    let side = at in
+    let start = side in
+    outer_is start.requires.0 start.args.p true false side.portal_sector.ensures side.portal_side.ensures at.has_beyond.ensures at.if-not-has_beyond.false
+    c.facing.ensures c.is_portal.ensures c.if-is_portal.false

@@ -1,0 +1,14 @@
+-- `sector_mids` takes the midpoint of each place.
+use Prim.Native.Nat.{◌+◌, ◌-◌, ◌*◌}
+use borrow.Author.Rules.{rules}
+use Rattle.laws.specs.Table.{Tabled, tabling}
+use Rattle.model.specs.Store.{decode}
+use Rattle.model.specs.Portals.{sector_portals}
+use Rattle.graph.specs.Near.{mid_of, sector_mids}
+use Rattle.graph.proofs.near.sector_mids.Given as goal
+
+abbrev pub invariant-loop-c : goal.invariant-loop-c
+invariant-loop-c l = Tabled (λ k. mid_of (decode l.st) (l.s * sector_portals + k)) sector_portals l.c l.mids
+
+abbrev pub decreases-loop-c : goal.decreases-loop-c
+decreases-loop-c l = sector_portals - l.c

@@ -1,0 +1,12 @@
+-- `mark_of` reads the mark of the portal's side.
+use native.Mathlib.Omega.{arith}
+use mathlib.Core.Path.{◌∙◌}
+use Rattle.graph.specs.Reading.{accepted_of, room_of, mark_read, mark_low}
+use borrow.Author.Rules.{rules}
+use Rattle.graph.proofs.portals.mark_of.Goals as goal
+
+pub returns : goal.returns
+returns c =
+    let start = c in
+    let is = c.mark_in.ensures ∙ mark_read start.requires.0 start.args.p start.requires.1 in
+    (is, omega (arith, is, mark_low start.requires.0 start.args.p))

@@ -1,0 +1,20 @@
+-- `portal_run` finds the window by the mark of its side.
+use borrow.Author.Rules.{rules}
+use Rattle.model.specs.Store.{decode}
+use Rattle.model.specs.PortalNumbers.{portal_is}
+use Rattle.graph.specs.Reading.{portal_sector_lem, places_of_lem}
+use Rattle.graph.proofs.portals.portal_run.Goals as goal
+
+pub mark_of-requires : goal.mark_of-requires
+mark_of-requires c = (c.requires.0, portal_sector_lem c.requires.0 c.args.p c.requires.1)
+
+pub window_at-requires : goal.window_at-requires
+window_at-requires c =
+    let start = c in
+    let mark = c.mark_of.ensures in
+    (mark.1, rw (c.portal_window.ensures, mark.0) (portal_is (decode start.args.st.now) start.args.p start.requires.1).among)
+
+pub returns : goal.returns
+returns c =
+    let start = c in
+    places_of_lem start.requires.0 start.args.p start.requires.1 c.mark_of.ensures.0 (rw c.portal_window.ensures at c.window_at.ensures)

@@ -1,0 +1,16 @@
+-- `is_nearby` searches the nine places.
+use Prim.Native.Nat.{◌-◌}
+use mathlib.Core.Bool.{◌&&◌}
+use lib.Dec.{eqb}
+use Rattle.laws.specs.Search.{Clear, seeking}
+use Rattle.model.specs.Change.{nearby, is_there, is_nearby}
+use borrow.Author.Rules.{rules}
+use Rattle.sector_cost.proofs.nearby.is_nearby.Goals as goal
+
+pub returns-then-is_place : goal.returns-then-is_place
+unfolding is_nearby
+returns-then-is_place c = search (rules, seeking)
+
+pub returns : goal.returns
+unfolding is_nearby
+returns c = search (rules, seeking)

@@ -1,0 +1,13 @@
+-- `reset_nearby` is the run over its places.
+use Prim.Native.Nat.{◌-◌}
+use Rattle.laws.specs.Fold.{Ran, counting}
+use Rattle.model.specs.Change.{reset_sector}
+use Rattle.model.specs.Nearby.{at_nearby}
+use borrow.Author.Rules.{rules}
+use Rattle.sector_cost.proofs.reset_nearby.Given as goal
+
+abbrev pub invariant-loop-k : goal.invariant-loop-k
+invariant-loop-k l = Ran (at_nearby l.m l.t (reset_sector l.base)) l.n l.k l.initial.scaled l.scaled
+
+abbrev pub decreases-loop-k : goal.decreases-loop-k
+decreases-loop-k l = l.n - l.k

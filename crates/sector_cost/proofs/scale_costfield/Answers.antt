@@ -1,0 +1,19 @@
+-- `scale_costfield` is the run over the cells of a sector.
+use Prim.Native.Nat.{◌-◌}
+use native.Mathlib.Omega.{arith}
+use Rattle.laws.specs.Fold.{Ran, counting}
+use Rattle.model.specs.Scaling.{scale_cell, scale_sector}
+use Rattle.walks.specs.Board.{board_long}
+use Rattle.walks.specs.Walks.{Shows, shows_long}
+use borrow.Author.Rules.{rules}
+use Rattle.sector_cost.proofs.scale_costfield.Goals as goal
+
+pub loop-i-init : goal.loop-i-init
+loop-i-init c = (search (rules, counting), search rules)
+
+pub loop-i-preserved : goal.loop-i-preserved
+loop-i-preserved c = (search (rules, counting), search rules)
+
+pub returns : goal.returns
+unfolding scale_sector
+returns c = record { list = search (rules, counting); shown = c.loop-i.invariant.1.shows }

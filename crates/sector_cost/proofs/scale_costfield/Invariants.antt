@@ -1,0 +1,15 @@
+-- `scale_costfield` is the run over the cells of a sector.
+use Prim.Native.Nat.{◌-◌}
+use native.Mathlib.Omega.{arith}
+use Rattle.laws.specs.Fold.{Ran, counting}
+use Rattle.model.specs.Scaling.{scale_cell, scale_sector}
+use Rattle.walks.specs.Board.{board_long}
+use Rattle.walks.specs.Walks.{Shows, shows_long}
+use borrow.Author.Rules.{rules}
+use Rattle.sector_cost.proofs.scale_costfield.Given as goal
+
+abbrev pub invariant-loop-i : goal.invariant-loop-i
+invariant-loop-i l = Ran (scale_cell l.m l.base l.s) 100 l.i l.initial.scaled l.scaled × Shows l.m l.s l.o l.scaled l.board
+
+abbrev pub decreases-loop-i : goal.decreases-loop-i
+decreases-loop-i l = 100 - l.i

@@ -1,0 +1,16 @@
+-- `scale_nearby` is the run over its places.
+use Prim.Native.Nat.{◌-◌}
+use native.Mathlib.Omega.{arith}
+use mathlib.Core.Path.{◌≡◌}
+use Rattle.laws.specs.Fold.{Ran, counting}
+use Rattle.model.specs.Scaling.{scale_sector}
+use Rattle.model.specs.Nearby.{at_nearby}
+use Rattle.walks.specs.Board.{board_of, board_long}
+use borrow.Author.Rules.{rules}
+use Rattle.sector_cost.proofs.scale_nearby.Given as goal
+
+abbrev pub invariant-loop-k : goal.invariant-loop-k
+invariant-loop-k l = Ran (at_nearby l.m l.t (scale_sector l.m l.base)) l.n l.k l.initial.scaled l.scaled × (l.board ≡ board_of l.m l.scaled)
+
+abbrev pub decreases-loop-k : goal.decreases-loop-k
+decreases-loop-k l = l.n - l.k

@@ -1,0 +1,13 @@
+-- `scale_place` rescales the sector of a place where there is one.
+use mathlib.Core.Path.{sym, ◌∙◌}
+use Rattle.model.specs.Nearby.{nearby_lt}
+use borrow.Author.Rules.{rules}
+use Rattle.sector_cost.proofs.scale_place.Goals as goal
+
+pub scale_costfield-requires : goal.scale_costfield-requires
+scale_costfield-requires c =
+    let n = c in
+    let t = n in
+    let a = t.args in
+    let l = nearby_lt a.m a.t a.k (search rules) (sym t.is_there.ensures ∙ t.if-is_there.true) in
+    rw n.nearby.ensures (search rules)

@@ -1,0 +1,15 @@
+-- `scale_sectors` is the run over its sectors.
+use Prim.Native.Nat.{◌-◌}
+use native.Mathlib.Omega.{arith}
+use mathlib.Core.Path.{◌≡◌}
+use Rattle.laws.specs.Fold.{Ran, counting}
+use Rattle.model.specs.Scaling.{scale_sector}
+use Rattle.walks.specs.Board.{board_of, board_long}
+use borrow.Author.Rules.{rules}
+use Rattle.sector_cost.proofs.scale_sectors.Goals as goal
+
+pub loop-s-init : goal.loop-s-init
+loop-s-init c = (search (rules, counting), search rules)
+
+pub loop-s-preserved : goal.loop-s-preserved
+loop-s-preserved c = (search (rules, counting), search rules)
