@@ -10,7 +10,6 @@ use lib.Dec.{ltb}
 use lib.ListN.{length, get_or, set, take, drop}
 use Rattle.laws.specs.Fold.{pick}
 use Rattle.laws.specs.Ladder.{refuse}
-use Rattle.laws.specs.Region.{copied}
 use Rattle.laws.specs.Table.{tabulate, length_tabulate, tabulate_at}
 use Rattle.model.specs.declared.Measures.{Measures}
 use Rattle.model.specs.declared.Side.{Side}
@@ -72,10 +71,6 @@ module _ {m : Measures} {st : List ℕ} {n : ℕ} (c : Changeable m st n) where
       let marks : k' ≡ remarked m (rescaled m (set (hall_in m st).base n cost) (n / 100) (hall_in m st).scaled) (n / 100) (marks_in m st) = ek' ∙ rw (new, ek) in
       let done : hall_of m (set b n cost) s' k' ≡ changed (hall_in m st) n cost = λ i. record { measures = m; base = base i; scaled = new i; marks = marks i } in
       done ∙ ap (λ h. changed h n cost) (hall_read st c.read)
-
--- a list as long as a part of the store, after that was copied into it
-pub part_copied : {whole part new : List ℕ} (old : List ℕ) → part ≡ whole → length old ≡ length part → new ≡ take (length part) part ++ drop (length part) old → new ≡ whole
-part_copied {whole} {part} old e l h = copied part old l h ∙ e
 
 -- marks of ten bits
 mark_small : (m : Measures) (costs : List ℕ) (s : ℕ) (side : Side) → mark_of m costs s side ≤ 1023

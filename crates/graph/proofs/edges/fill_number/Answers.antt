@@ -43,7 +43,7 @@ pub returns-then-mid-ge-NO_CROSSING : goal.returns-then-mid-ge-NO_CROSSING
 returns-then-mid-ge-NO_CROSSING c =
     let at = c in
     c.clear_places.ensures.grown _ _ at.requires.opened.3
-    (λ k l. weight_none (H at) at.args.p k l (inside (goal.at.returns-then-mid-ge-NO_CROSSING c).Start k l) (own_none (H at) at.args.p at.requires.opened.2 (fits_of at.requires.opened.0) c.if-mid-ge-NO_CROSSING.true))
+    (λ k l. weight_none (H (goal.at.returns-then-mid-ge-NO_CROSSING c).Start) at.args.p k l (inside (goal.at.returns-then-mid-ge-NO_CROSSING c).Start k l) (own_none (H (goal.at.returns-then-mid-ge-NO_CROSSING c).Start) at.args.p at.requires.opened.2 (fits_of at.requires.opened.0) c.if-mid-ge-NO_CROSSING.true))
 
 pub fill_places-requires : goal.fill_places-requires
 fill_places-requires c =
@@ -58,9 +58,9 @@ returns c =
     let sector = c in
     let at = sector in
     let p = at.args.p in
-    let own = own_some (H at) p at.requires.opened.2 sector.if-mid-ge-NO_CROSSING.false in
+    let own = own_some (H (goal.at.returns c).Start) p at.requires.opened.2 sector.if-mid-ge-NO_CROSSING.false in
     let moves =
-    moves_own (H at) p found.result (ap (λ (s : ℕ). floor_number s found.result) sector.portal_sector.ensures) (found.ensures.0 ∙ own.1)
+    moves_own (H (goal.at.returns c).Start) p found.result (ap (λ (s : ℕ). floor_number s found.result) sector.portal_sector.ensures) (found.ensures.0 ∙ own.1)
     (omega (arith, found.ensures.0, sector.if-mid-ge-NO_CROSSING.false)) spread.found in
     c.fill_places.ensures.grown _ _ at.requires.opened.3
-    (λ k l. weight_by (H at) p k l (inside (goal.at.returns c).Start k l) (fits_of at.requires.opened.0) own.0 moves at.requires.opened.2 c.outer_edge-outer.ensures)
+    (λ k l. weight_by (H (goal.at.returns c).Start) p k l (inside (goal.at.returns c).Start k l) (fits_of at.requires.opened.0) own.0 moves at.requires.opened.2 c.outer_edge-outer.ensures)

@@ -1,0 +1,16 @@
+-- `remark_sector` marks the sides of a sector one after the other.
+use Prim.Native.Nat.{◌-◌}
+use Rattle.laws.specs.Fold.{Ran, counting}
+use Rattle.builder.specs.Around.{side_fresh, sector_fresh}
+use borrow.Author.Rules.{rules}
+use Rattle.builder.proofs.change.remark_sector.Goals as goal
+
+pub loop-i-init : goal.loop-i-init
+loop-i-init c = search (rules, counting)
+
+pub loop-i-preserved : goal.loop-i-preserved
+loop-i-preserved c = search (rules, counting)
+
+pub returns : goal.returns
+unfolding sector_fresh
+returns c = search (rules, counting)

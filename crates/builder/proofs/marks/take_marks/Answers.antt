@@ -1,0 +1,19 @@
+-- `take_marks` takes the marks of a store over, one after the other.
+use Prim.Native.Nat.{◌-◌}
+use mathlib.Core.Path.{refl}
+use Rattle.laws.specs.Fold.{Ran, counting}
+use Rattle.laws.specs.Each.{each, each_end}
+use Rattle.model.specs.Store.{marks_in}
+use Rattle.builder.specs.Marks.{kept}
+use borrow.Author.Rules.{rules}
+use Rattle.builder.proofs.marks.take_marks.Goals as goal
+
+pub loop-k-init : goal.loop-k-init
+loop-k-init c = search (rules, counting)
+
+pub loop-k-preserved : goal.loop-k-preserved
+loop-k-preserved c = search (rules, counting)
+
+pub returns : goal.returns
+unfolding marks_in
+returns c = each_end _ c.loop-k.invariant (search rules) refl (search rules)
