@@ -1,0 +1,21 @@
+-- `search` ends in the least keys: at the outset the end portal waits, and where nobody does the list is certified.
+use native.Mathlib.Omega.{arith}
+use Prim.Native.Nat.{◌<◌}
+use lib.ListN.{length}
+use borrow.Author.Rules.{rules}
+use Rattle.laws.specs.Waiting.{waiting_over}
+use Rattle.laws.specs.Extending.{keeps_itself}
+use Rattle.laws.specs.Turns.{lined_alone, begins}
+use Rattle.search.specs.Keys.{keys_found}
+use Rattle.search.proofs.keys.search.Goals as goal
+
+pub returns : goal.returns
+returns c =
+    let call = c in
+    let b = call in
+    let start = b in
+    let given = start.requires.searched in
+    let sound = given.0.graph.sound in
+    let began = begins given.0.graph given.1 (omega arith) b.begin.ensures.costs b.begin.ensures.waits.0 in
+    let kept = keeps_itself b.begin.last.1.0 b.begin.last.1.1.0 call.settle.new.1.1.0 call.settle.new.1.1.1.0 sound call.settle.ensures.kept _ _ began in
+    keys_found sound start.requires.both_ways given.1 (waiting_over sound kept (λ v l. call.settle.ensures.over v (omega (arith, b.begin.kept.1.0, given.0.graph.numbers))))

@@ -1,0 +1,33 @@
+-- `serve` gives one number its turn, if it waits.
+use native.Mathlib.Omega.{arith}
+use native.Mathlib.Nat.{lt_of_le_of_lt}
+use Prim.Native.Nat.{◌<◌}
+use mathlib.Core.Path.{◌∙◌}
+use borrow.Author.Rules.{rules}
+use lib.ListN.{length-set}
+use Rattle.laws.specs.Waiting.{work_served}
+use Rattle.laws.specs.Extending.{turn_begins}
+use Rattle.model.specs.Portals.{portal_count}
+use Rattle.search.specs.Turns.{arcs_of}
+use Rattle.laws.specs.Turns.{turned_none, turned_less}
+use Rattle.search.proofs.keys.serve.Goals as goal
+use Rattle.search.proofs.keys.serve.Goals.{Else-wait-u-eq0}
+
+low : (c : Else-wait-u-eq0) → c.args.u < portal_count c.args.m
+low c = omega (arith, c.if-keys-u.false, c.requires.0.graph.numbers)
+
+pub returns : goal.returns
+returns c =
+    let start = c in
+    let u = start.args.u in
+    let took = c.take_turn.ensures in
+    let both = (
+        took.room,
+        (
+        λ g o ext s top w. took.served.done g o ext s top (turn_begins ext start.requires.0.graph.sound o (low (goal.at.returns c).Else-wait-u-eq0) (arcs_of start.args.m start.args.table.now u)
+        start.args.keys.now start.args.wait.now start.requires.0.graph.room w),
+        turned_less (lt_of_le_of_lt took.served.light (work_served start.args.keys.now start.args.wait.now u (omega (arith, start.requires.0.graph.room, low (goal.at.returns c).Else-wait-u-eq0))
+        (omega (arith, c.if-wait-u-eq0.false)))),
+        ),
+        ) in
+    record { room = both.0; kept = both.1; turn = both.2 }

@@ -1,0 +1,22 @@
+-- `settle` ends where the queue of those that wait is empty. The loop's invariant: what waited is kept, and the queue is that of those that wait.
+use native.Mathlib.Omega.{arith}
+use mathlib.Core.Path.{◌≡◌, refl, ◌∙◌}
+use lib.ListN.{length}
+use Rattle.laws.specs.Waiting.{work}
+use Rattle.model.specs.Portals.{portal_count}
+use Rattle.graph.specs.EdgeTable.{table_graph}
+use Rattle.laws.specs.Extending.{Keeps}
+use Rattle.laws.specs.Turns.{Lined}
+use Rattle.search.proofs.keys.settle.Goals as goal
+
+pub loop-t-preserved : goal.loop-t-preserved
+loop-t-preserved c =
+    let call = c in
+    let d = call in
+    let inv = d.loop-t.invariant in (
+      d.drain.kept.1.1.0 ∙ inv.0,
+      d.drain.kept.1.1.1.0 ∙ inv.1,
+      call.collect-t.auto.1.1.0 ∙ d.drain.kept.1.1.1.1.0 ∙ inv.2,
+      call.collect-t.ensures,
+      λ g o ext s top w. d.drain.ensures.kept g o ext s top (inv.4 g o ext s top w),
+    )
