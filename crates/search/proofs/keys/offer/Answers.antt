@@ -21,28 +21,16 @@ returns-then-w-eq0 c =
     record { room = start.requires.3; taken = skips start.args.m start.args.table.now start.args.keys.now start.args.wait.now start.args.a start.args.u start.requires.2 c.if-w-eq0.true }
 
 pub returns-then-old-w : goal.returns-then-old-w
-returns-then-old-w c = let n = c in
-    let both = (
-        n.requires.3,
-        declines n.args.m n.args.table.now n.args.keys.now n.args.wait.now n.args.a n.args.u n.requires.2
-        n.head_of-v.result n.head_of-v.ensures (omega arith), in
-    record { room = both.0; taken = both.1 }
+returns-then-old-w c = let n = c in record { room = n.requires.3; taken = declines n.args.m n.args.table.now n.args.keys.now n.args.wait.now n.args.a n.args.u n.requires.2
+      n.head_of-v.result n.head_of-v.ensures (omega arith) }
 
 pub returns-then-old-w-2 : goal.returns-then-old-w-2
-returns-then-old-w-2 c = let n = c in
-    let both = (
-        n.requires.3,
-        declines n.args.m n.args.table.now n.args.keys.now n.args.wait.now n.args.a n.args.u n.requires.2 n.head_of-v.result n.head_of-v.ensures
-        (omega arith), in
-    record { room = both.0; taken = both.1 }
+returns-then-old-w-2 c = let n = c in record { room = n.requires.3; taken = declines n.args.m n.args.table.now n.args.keys.now n.args.wait.now n.args.a n.args.u n.requires.2 n.head_of-v.result n.head_of-v.ensures
+      (omega arith) }
 
 pub returns-then-waited-ne0 : goal.returns-then-waited-ne0
-returns-then-waited-ne0 c = let n = c in
-    let both = (
-        n.requires.3,
-        accepts n.args.m n.args.table.now n.args.keys.now n.args.wait.now n.args.a n.args.u n.requires.2
-        n.head_of-v.result n.head_of-v.ensures (pos (goal.at.returns-then-waited-ne0 c).After-head_of-v) (less (goal.at.returns-then-waited-ne0 c).Else-old-w-2), in
-    record { room = both.0; taken = both.1 }
+returns-then-waited-ne0 c = let n = c in record { room = n.requires.3; taken = accepts n.args.m n.args.table.now n.args.keys.now n.args.wait.now n.args.a n.args.u n.requires.2
+      n.head_of-v.result n.head_of-v.ensures (pos (goal.at.returns-then-waited-ne0 c).After-head_of-v) (less (goal.at.returns-then-waited-ne0 c).Else-old-w-2) }
 
 pub returns : goal.returns
 returns c =

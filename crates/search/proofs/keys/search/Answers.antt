@@ -16,6 +16,6 @@ returns c =
     let start = b in
     let given = start.requires.searched in
     let sound = given.0.graph.sound in
-    let began = begins given.0.graph given.1 (omega arith) b.begin.ensures.costs b.begin.ensures.waits.0 in
-    let kept = keeps_itself b.begin.last.1.0 b.begin.last.1.1.0 call.settle.new.1.1.0 call.settle.new.1.1.1.0 sound call.settle.ensures.kept _ _ began in
-    keys_found sound start.requires.both_ways given.1 (waiting_over sound kept (λ v l. call.settle.ensures.over v (omega (arith, b.begin.kept.1.0, given.0.graph.numbers))))
+    let began = begins given.0.graph given.1 (omega arith) b.begin.ensures.costs b.begin.ensures.waits in
+    let kept = keeps_itself b.begin.new.keys b.begin.new.wait call.settle.new.keys call.settle.new.wait sound call.settle.ensures.kept _ _ began in
+    keys_found sound start.requires.both_ways given.1 (waiting_over sound kept (λ v l. call.settle.ensures.over v (omega (arith, b.begin.auto.keys, given.0.graph.numbers))))

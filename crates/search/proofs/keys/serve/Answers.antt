@@ -18,16 +18,13 @@ low c = omega (arith, c.if-keys-u.false, c.requires.0.graph.numbers)
 
 pub returns : goal.returns
 returns c =
-    let start = c in
-    let u = start.args.u in
+    let u = c.args.u in
     let took = c.take_turn.ensures in
-    let both = (
-        took.room,
-        (
-        λ g o ext s top w. took.served.done g o ext s top (turn_begins ext start.requires.0.graph.sound o (low (goal.at.returns c).Else-wait-u-eq0) (arcs_of start.args.m start.args.table.now u)
-        start.args.keys.now start.args.wait.now start.requires.0.graph.room w),
-        turned_less (lt_of_le_of_lt took.served.light (work_served start.args.keys.now start.args.wait.now u (omega (arith, start.requires.0.graph.room, low (goal.at.returns c).Else-wait-u-eq0))
-        (omega (arith, c.if-wait-u-eq0.false)))),
-        ),
-        ) in
-    record { room = both.0; kept = both.1; turn = both.2 }
+    let here = low (goal.at.returns c).Else-wait-u-eq0 in
+    record {
+      room = took.room;
+      kept = λ g o ext s top w. took.served.done g o ext s top (turn_begins ext c.requires.0.graph.sound o here (arcs_of c.args.m c.args.table.now u)
+      c.args.keys.now c.args.wait.now c.requires.0.graph.room w);
+      turn = turned_less (lt_of_le_of_lt took.served.light (work_served c.args.keys.now c.args.wait.now u (omega (arith, c.requires.0.graph.room, here))
+      (omega (arith, c.if-wait-u-eq0.false))));
+    }

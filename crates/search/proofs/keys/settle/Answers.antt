@@ -14,9 +14,9 @@ loop-t-preserved c =
     let call = c in
     let d = call in
     let inv = d.loop-t.invariant in (
-      d.drain.kept.1.1.0 ∙ inv.0,
-      d.drain.kept.1.1.1.0 ∙ inv.1,
-      call.collect-t.auto.1.1.0 ∙ d.drain.kept.1.1.1.1.0 ∙ inv.2,
+      d.drain.auto.keys ∙ inv.0,
+      d.drain.auto.wait ∙ inv.1,
+      call.collect-t.auto.queue ∙ d.drain.auto.queue ∙ inv.2,
       call.collect-t.ensures,
       λ g o ext s top w. d.drain.ensures.kept g o ext s top (inv.4 g o ext s top w),
     )

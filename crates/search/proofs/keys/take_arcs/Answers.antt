@@ -21,13 +21,13 @@ loop-a-preserved c =
     let sound = start.requires.searched.graph.sound in
     let numbers : length at.loop-a.keys ≡ portal_count start.args.m = at.loop-a.invariant.2 ∙ start.requires.searched.graph.numbers in
     let room : portal_count start.args.m ≤ length at.loop-a.wait = omega (arith, at.loop-a.invariant.3, start.requires.searched.graph.room) in
-    let took = call.ensures.1 in (
+    let took = call.ensures.taken in (
       omega (arith, at.loop-a.invariant.0),
       omega arith,
-      call.auto.1.1.1.1.0 ∙ at.loop-a.invariant.2,
-      call.auto.1.1.1.1.1.0 ∙ at.loop-a.invariant.3,
-      call.auto.1.1.1.1.1.1.0 ∙ at.loop-a.invariant.4,
-      omega (arith, call.ensures.0, at.loop-a.invariant.4),
+      call.auto.keys ∙ at.loop-a.invariant.2,
+      call.auto.wait ∙ at.loop-a.invariant.3,
+      call.auto.queue ∙ at.loop-a.invariant.4,
+      omega (arith, call.ensures.room, at.loop-a.invariant.4),
       λ g o ext s top w. rw (took.0, took.1) (turn_arc ext sound o at.loop-a.keys at.loop-a.wait numbers room in_arcs (omega (arith, at.loop-a.invariant.0)) (at.loop-a.invariant.6 g o ext s top w)),
       rw (took.0, took.1) (le_trans (work_arc sound at.loop-a.keys at.loop-a.wait at.loop-a.a numbers room in_arcs) at.loop-a.invariant.7),
     )
