@@ -13,8 +13,7 @@ use Rattle.model.specs.Portals.{portal_sector, window_of, midpoint}
 use Rattle.model.specs.Route.{step_at}
 use Rattle.model.specs.Store.{decode}
 use Rattle.graph.specs.Reading.{measures_are, accepted_of, portal_sector_lem}
-use Rattle.path.proofs.steps.step_at.Statement.{statement}
-use Rattle.path.proofs.steps.step_at.Tie as tie
+use Rattle.path.proofs.steps.step_at.Goals as goal
 
 -- a step from its parts, over plain values
 step_is : (h : Hall) (p : ℕ) {m : Measures} {sector : SectorID} {goal : ℕ} {w : PortalWindow} → h.measures ≡ m → sector ≡ sector_at m (portal_sector p) → goal ≡ midpoint h p → w ≡ window_of h p
@@ -22,28 +21,17 @@ step_is : (h : Hall) (p : ℕ) {m : Measures} {sector : SectorID} {goal : ℕ} {
 unfolding step_at
 step_is h p e s g w = rw (s, ← e, g, w)
 
-sector-at-requires : tie.Need-sector-at-requires
-sector-at-requires c κs =
-    let start = c.before.before in
+pub sector_at-sector-requires : goal.sector_at-sector-requires
+sector_at-sector-requires c =
+    let start = c in
     let few = accepted_of start.requires.0 in
-    (few.some_rows, omega (arith, c.portal_sector_lem.ensures, portal_sector_lem start.requires.0 start.args.p start.requires.1, few.few_sectors))
+    (few.some_rows, omega (arith, c.portal_sector.ensures, portal_sector_lem start.requires.0 start.args.p start.requires.1, few.few_sectors))
 
-returns : tie.Need-returns
+pub returns : goal.returns
 returns c =
-    let window = c.before in
-    let mid = window.before in
-    let sector = mid.before in
-    let start = sector.before.before.before in
-    step_is (decode start.args.st.now) start.args.p (measures_are start.requires.0) (rw sector.before.portal_sector_lem.ensures at sector.sector-at.ensures)
-    (c.byte.ensures ∙ mid.midpoint.ensures.0) window.window-of-portal.ensures
-
-pub step-at-spec : {M : Type 1} → statement M
-step-at-spec =
-    tie.close
-    (tie.spec
-    (λ c κs. search rules)
-    sector-at-requires
-    (λ c κs. search rules)
-    (λ c κs. search rules)
-    (λ c κs. search rules)
-    returns)
+    let window = c in
+    let mid = window in
+    let sector = mid in
+    let start = sector in
+    step_is (decode start.args.st.now) start.args.p (measures_are start.requires.0) (rw sector.portal_sector.ensures at sector.sector_at-sector.ensures)
+    (c.byte.ensures ∙ mid.midpoint-goal.ensures.0) window.window_of_portal-w.ensures

@@ -1,0 +1,24 @@
+-- `offer_ends` tries each end once. The loop's invariant: the goal's arcs before place k are taken.
+use native.Mathlib.Omega.{arith}
+use mathlib.Core.Path.{◌≡◌, refl, subst, ◌∙◌}
+use Prim.Native.Nat.{ℕ, ◌-◌, ◌≤◌}
+use lib.ListN.{length}
+use Rattle.laws.specs.Graph.{Graph, Sound}
+use Rattle.laws.specs.Starts.{starts_more}
+use Rattle.model.specs.Portals.{sector_portals}
+use Rattle.choice.specs.Ends.{end_at, end_cost, EndsBegun}
+use Rattle.choice.proofs.ends.offer_ends.Goals as goal
+
+pub loop-k-preserved : goal.loop-k-preserved
+loop-k-preserved c =
+    let call = c.offer_end in
+    let in-loop = c in
+    let at = c in
+    let inv = at.loop-k.invariant in
+    let given = at.requires in (
+      omega (arith, in-loop.loop-k-test.true),
+      call.auto.keys ∙ inv.1,
+      call.auto.wait ∙ inv.2,
+      λ g sound numbers b. starts_more g sector_portals (end_at at.args.q) (end_cost at.args.lasts.now) sound (λ j l. omega (arith, given.0)) at.loop-k.keys at.loop-k.wait (inv.1
+          ∙ numbers) (inv.2 ∙ given.2 ∙ numbers) at.loop-k.k in-loop.loop-k-test.true call.ensures (inv.3 g sound numbers b),
+    )

@@ -1,0 +1,17 @@
+-- `first_place` keeps the first of the least. The loop's invariant: best is it among the places before c, and least is its run.
+use native.Mathlib.Omega.{arith}
+use mathlib.Core.Path.{subst}
+use mathlib.Core.Logic.{⊎_elim}
+use Prim.Native.Nat.{ℕ, ◌-◌, ◌≤◌}
+use borrow.Author.Rules.{rules}
+use Rattle.laws.specs.FirstLeast.{Picked, picked_none, picked_take, picked_skip}
+use Rattle.model.specs.LeastPath.{unlinked}
+use Rattle.model.specs.Portals.{sector_portals}
+use Rattle.choice.specs.FirstPair.{place_run}
+use Rattle.choice.proofs.pair.first_place.Given as goal
+
+abbrev pub invariant-loop-c : goal.invariant-loop-c
+invariant-loop-c l = (l.c ≤ sector_portals) × Picked (place_run l.keys l.p l.legs l.lasts) unlinked sector_portals l.c l.least l.best
+
+abbrev pub decreases-loop-c : goal.decreases-loop-c
+decreases-loop-c l = sector_portals - l.c

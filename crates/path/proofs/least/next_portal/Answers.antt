@@ -1,0 +1,29 @@
+-- `next_portal` goes over a portal's arcs. The loop's invariant: the best of the arcs before a.
+use native.Mathlib.Omega.{arith}
+use mathlib.Core.Path.{◌≡◌, ap, ◌∙◌}
+use mathlib.Core.Logic.{inl}
+use Prim.Native.Nat.{ℕ, ◌+◌, ◌-◌, ◌*◌, ◌≤◌}
+use borrow.Author.Rules.{rules}
+use Rattle.laws.specs.FirstPath.{next}
+use Rattle.laws.specs.Tracing.{next_suc}
+use Rattle.model.specs.LeastPath.{node_rank}
+use Rattle.model.specs.Store.{decode}
+use Rattle.model.specs.Portals.{sector_portals}
+use Rattle.graph.specs.EdgeTable.{table_graph}
+use Rattle.path.specs.Following.{Best, searched_of, next_begins, next_ends}
+use Rattle.path.proofs.least.next_portal.Goals as goal
+
+pub loop-a-init : goal.loop-a-init
+loop-a-init c =
+    let start = c in
+    let all = ap (λ (n : ℕ). n * sector_portals) c.sectors-best.ensures in
+    (omega arith, omega arith, all ∙ next_begins start.args.m start.args.table.now (node_rank (decode start.args.st.now)) start.args.keys.now start.args.u, inl all)
+
+pub loop-a-preserved : goal.loop-a-preserved
+loop-a-preserved c = (omega arith, omega arith, next_suc _ _ _ _ _ _ _ c.loop-a.invariant.2 c.closer-best.ensures.is, c.closer-best.ensures.some)
+
+pub returns : goal.returns
+returns c =
+    let start = c in
+    c.loop-a.invariant.2 ∙ next_ends start.args.m start.args.table.now (node_rank (decode start.args.st.now)) start.args.keys.now start.args.u c.loop-a.a
+    (omega arith) (omega (arith, start.requires.1))

@@ -1,0 +1,52 @@
+-- `node_rank` puts sector, first cell, last cell and side into one number.
+use native.Mathlib.Omega.{arith}
+use mathlib.Core.Path.{ap, ◌∙◌}
+use Prim.Native.Nat.{ℕ, ◌<◌}
+use borrow.Author.Rules.{rules}
+use Rattle.model.specs.Windows.{border_cell}
+use Rattle.model.specs.Sides.{side_low}
+use Rattle.model.specs.LeastPath.{cell_rank}
+use Rattle.graph.specs.Reading.{accepted_of, portal_sector_lem}
+use Rattle.path.specs.Following.{rank_is}
+use Rattle.path.proofs.least.node_rank.Goals as goal
+use Rattle.path.proofs.least.node_rank.Goals.{After-portal_sector}
+
+sector : (c : After-portal_sector) → c.portal_sector.result < 100
+sector c =
+    let start = c in
+    omega (arith, c.portal_sector.ensures, portal_sector_lem start.requires.0 start.args.p start.requires.1, (accepted_of start.requires.0).few_sectors)
+
+pub overflow_add-result-3 : goal.overflow_add-result-3
+overflow_add-result-3 c = let at = c in omega (
+  arith,
+  sector (goal.at.overflow_add-result-3 c).After-portal_sector,
+  at.border_rank-first.ensures.1,
+  at.border_rank-last.ensures.1,
+  c.side_number.ensures,
+  side_low at.portal_side-side.result,
+)
+
+pub returns : goal.returns
+returns c =
+    let ranks = c in
+    let at = ranks in
+    let start = at in
+    let side = at.portal_side-side in
+    rank_is start.args.st.now start.args.p side.ensures c.portal_sector.ensures
+    (ranks.border_rank-first.ensures.0 ∙ ap (λ (i : ℕ). cell_rank (border_cell side.result i)) at.portal_run-run.ensures.begins)
+    (ranks.border_rank-last.ensures.0 ∙ ap (λ (i : ℕ). cell_rank (border_cell side.result i)) at.portal_run-run.ensures.ends) c.side_number.ensures
+
+pub overflow_mul-result : goal.overflow_mul-result
+overflow_mul-result c = omega (arith, sector c)
+
+pub overflow_add-result : goal.overflow_add-result
+overflow_add-result c = omega (arith, sector c, c.border_rank-first.ensures.1)
+
+pub overflow_mul-result-2 : goal.overflow_mul-result-2
+overflow_mul-result-2 c = omega (arith, sector c, c.border_rank-first.ensures.1)
+
+pub overflow_add-result-2 : goal.overflow_add-result-2
+overflow_add-result-2 c = omega (arith, sector c, c.border_rank-first.ensures.1, c.border_rank-last.ensures.1)
+
+pub overflow_mul-result-3 : goal.overflow_mul-result-3
+overflow_mul-result-3 c = omega (arith, sector c, c.border_rank-first.ensures.1, c.border_rank-last.ensures.1)
