@@ -1,0 +1,28 @@
+-- `write_and_read` reads what it wrote: the file lies in front of the output, as long as write file answered.
+use mathlib.Core.Path.{ap}
+use lib.ListN.{take}
+use Prim.Native.Nat.{◌-◌}
+use Rattle.home.specs.Home.{inside, comes_back, refused_back}
+use borrow.Author.Rules.{rules}
+use Rattle.home.proofs.write_and_read.Goals as goal
+
+pub slice_bounds-read_file-end : goal.slice_bounds-read_file-end
+slice_bounds-read_file-end c =
+    let told = c in
+    let wrote = told in
+    let start = wrote in
+    inside _ start.args.output.now wrote.write_file.ensures.answer told.length.given.1 (search rules)
+
+pub returns-in-File : goal.returns-in-File
+returns-in-File c =
+    let read = c.read_file in
+    let told = c in
+    let wrote = told in
+    let start = wrote in record { written = wrote.write_file.ensures.written; back = comes_back _ start.args.output.now start.args.base.now wrote.write_file.ensures.answer told.length.given.1 (ap (take (told.length.given.0.0 - 0)) wrote.write_file.ensures.written) read.ensures.answer read.ensures.filled }
+
+pub returns-in-Refused : goal.returns-in-Refused
+returns-in-Refused c =
+    let told = c in
+    let wrote = told in
+    let start = wrote in
+    record { written = wrote.write_file.ensures.written; back = refused_back _ start.args.output.now wrote.write_file.ensures.answer told.number.given.1 }
