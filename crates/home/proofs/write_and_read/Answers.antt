@@ -11,18 +11,18 @@ slice_bounds-read_file-end c =
     let told = c in
     let wrote = told in
     let start = wrote in
-    inside _ start.args.output.now wrote.write_file.ensures.answer told.length.given.1 (search rules)
+    inside _ start.args.output.now wrote.write_file.ensures.answer c.in-File.is (search rules)
 
 pub returns-in-File : goal.returns-in-File
 returns-in-File c =
     let read = c.read_file in
     let told = c in
     let wrote = told in
-    let start = wrote in record { written = wrote.write_file.ensures.written; back = comes_back _ start.args.output.now start.args.base.now wrote.write_file.ensures.answer told.length.given.1 (ap (take (told.length.given.0.0 - 0)) wrote.write_file.ensures.written) read.ensures.answer read.ensures.filled }
+    let start = wrote in record { written = wrote.write_file.ensures.written; back = comes_back _ start.args.output.now start.args.base.now wrote.write_file.ensures.answer c.in-File.is (ap (take (c.in-File.length - 0)) wrote.write_file.ensures.written) read.ensures.answer read.ensures.filled }
 
 pub returns-in-Refused : goal.returns-in-Refused
 returns-in-Refused c =
     let told = c in
     let wrote = told in
     let start = wrote in
-    record { written = wrote.write_file.ensures.written; back = refused_back _ start.args.output.now wrote.write_file.ensures.answer told.number.given.1 }
+    record { written = wrote.write_file.ensures.written; back = refused_back _ start.args.output.now wrote.write_file.ensures.answer c.in-Refused.is }
