@@ -62,9 +62,10 @@ fn print_lines(input: &[u8]) {
 }
 
 // One byte more than the most is asked for, so that a longer input shows.
-fn main() {
+fn main(rt: HostRuntime) {
     let mut input = [0u8; 65537];
-    let Input::Bytes(n) = read_input(&mut input) else {
+    let mut stdin = rt.stdin();
+    let Input::Bytes(n) = read_input(&mut stdin, &mut input) else {
         io::write_all(2, b"hallroute: standard input cannot be read\n");
         return;
     };
