@@ -51,11 +51,11 @@ module _ (st pairs : List ℕ) (k : ℕ) where
       let d = next (k + 2 + 1) (k + 4) (omega arith) (omega arith) in
       rw (a, b, c, d)
 
-  pub pair_line : {source goal r : ℕ} (xs : List ℕ) {ys : List ℕ} → 4 ≤ length pairs - k → source ≡ u16_at pairs k → goal ≡ u16_at pairs (k + 2)
+  pub pair_line_lem : {source goal r : ℕ} (xs : List ℕ) {ys : List ℕ} → 4 ≤ length pairs - k → source ≡ u16_at pairs k → goal ≡ u16_at pairs (k + 2)
       → r ≡ length (pair_line st source goal) → r ≤ length xs
       → ys ≡ pair_line st source goal ++ drop (length (pair_line st source goal)) xs
       → IsPrefixLen r ys × (pair_lines st (drop k pairs) ≡ take r ys ++ pair_lines st (drop (k + 4) pairs))
-  pair_line {source} {goal} {r} xs {ys} h s g size fits is =
+  pair_line_lem {source} {goal} {r} xs {ys} h s g size fits is =
       let t : List ℕ = pair_line st source goal in
       let long : r ≤ length ys = rw is (simp (length-append, length-drop) (omega arith)) in
       let read : take r ys ≡ t = ap (take r) is ∙ take_at t (drop (length t) xs) r (sym size) in
