@@ -10,12 +10,12 @@ returns-in-Accepted c =
     let built = c in
     let known = built in
     let read = known in
-    let both = file_built _ _ _ (search rules) (search rules) (sym known.m.given.1 ∙ read_case _ _ read.read_file.ensures.answer) (search rules) read.read_file.ensures.filled built.build.ensures.answer
+    let both = file_built _ _ _ (search rules) (search rules) (sym c.in-Accepted.is ∙ read_case _ _ read.read_file.ensures.answer) (search rules) read.read_file.ensures.filled built.build.ensures.answer
         built.build.ensures.store in
     record { number = both.0; store = both.1 }
 
 pub returns-in-Refused : goal.returns-in-Refused
 returns-in-Refused c =
     let read = c in
-    let both = file_refused _ _ _ read.requires.0 (sym c.number.given.1 ∙ read_case _ _ read.read_file.ensures.answer) in
+    let both = file_refused _ _ _ read.requires.0 (sym c.in-Refused.is ∙ read_case _ _ read.read_file.ensures.answer) in
     record { number = both.0; store = both.1 }
