@@ -14,11 +14,11 @@ use Rattle.choice.proofs.ends.search_ends.Goals as goal
 use Rattle.choice.proofs.ends.search_ends.Goals.{After-offer_ends}
 
 -- the lists stay as long as they were lent
-keys-long : (c : After-offer_ends) → length c.offer_ends.new.keys ≡ portal_count c.args.m
-keys-long c = c.offer_ends.auto.keys ∙ c.fill_keys.auto.keys ∙ c.requires.searched.0.graph.numbers
+keys_long : (c : After-offer_ends) → length c.offer_ends.new.keys ≡ portal_count c.args.m
+keys_long c = c.offer_ends.auto.keys ∙ c.fill_keys.auto.keys ∙ c.requires.searched.0.graph.numbers
 
-wait-long : (c : After-offer_ends) → length c.offer_ends.new.wait ≡ portal_count c.args.m
-wait-long c = c.offer_ends.auto.wait ∙ c.fill_wait.auto.wait ∙ c.requires.searched.1
+wait_long : (c : After-offer_ends) → length c.offer_ends.new.wait ≡ portal_count c.args.m
+wait_long c = c.offer_ends.auto.wait ∙ c.fill_wait.auto.wait ∙ c.requires.searched.1
 
 pub returns : goal.returns
 returns c =
@@ -43,5 +43,5 @@ returns c =
     let kept = call.settle.ensures.kept (ends_graph g q lasts) (0 ∷ []) (starts_extends g sector_portals to cost sound (λ j l. omega (arith, given.2))) g.nodes unlinked waiting in
     let settled =
     starts_over g sector_portals to cost sound (λ j l. omega (arith, given.2)) keys call.settle.new.wait
-    (call.settle.auto.wait ∙ wait-long (goal.at.returns c).After-offer_ends) kept (λ v l. call.settle.ensures.over v (omega (arith, keys-long (goal.at.returns c).After-offer_ends))) in
-    ends_nearest q lasts keys sound start.requires.both_ways (omega (arith, given.0.few)) given.0.graph.light given.2 (call.settle.auto.keys ∙ keys-long (goal.at.returns c).After-offer_ends) settled
+    (call.settle.auto.wait ∙ wait_long (goal.at.returns c).After-offer_ends) kept (λ v l. call.settle.ensures.over v (omega (arith, keys_long (goal.at.returns c).After-offer_ends))) in
+    ends_nearest q lasts keys sound start.requires.both_ways (omega (arith, given.0.few)) given.0.graph.light given.2 (call.settle.auto.keys ∙ keys_long (goal.at.returns c).After-offer_ends) settled

@@ -30,11 +30,11 @@ room c = omega (arith, c.requires.opened.3.long, are c, c.requires.opened.1)
 inside : (c : Start) (k : ℕ) → k < sector_portals → c.args.p * sector_portals + k < sectors (H c).measures * sector_arcs
 inside c k l = omega (arith, are c, c.requires.opened.1)
 
-mids-20 : (c : Start) → length c.args.mids.now ≡ sector_portals
-mids-20 c = mids_long (H c) c.args.p c.requires.opened.2
+mids_20 : (c : Start) → length c.args.mids.now ≡ sector_portals
+mids_20 c = mids_long (H c) c.args.p c.requires.opened.2
 
 pub bounds-mids-p : goal.bounds-mids-p
-bounds-mids-p c = omega (arith, mids-20 (goal.at.bounds-mids-p c).Start)
+bounds-mids-p c = omega (arith, mids_20 (goal.at.bounds-mids-p c).Start)
 
 pub clear_places-requires : goal.clear_places-requires
 clear_places-requires c = (few (goal.at.clear_places-requires c).Start, room (goal.at.clear_places-requires c).Start)
@@ -49,7 +49,7 @@ pub fill_places-requires : goal.fill_places-requires
 fill_places-requires c =
     let spread = c.moves_from-n.ensures in
     let at = c in
-    (spread.long, spread.few, mids-20 (goal.at.fill_places-requires c).Start, few (goal.at.fill_places-requires c).Start, room (goal.at.fill_places-requires c).Start)
+    (spread.long, spread.few, mids_20 (goal.at.fill_places-requires c).Start, few (goal.at.fill_places-requires c).Start, room (goal.at.fill_places-requires c).Start)
 
 pub returns : goal.returns
 returns c =

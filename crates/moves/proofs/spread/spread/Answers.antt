@@ -11,9 +11,9 @@ use Rattle.moves.proofs.Steps.{far}
 use Rattle.moves.proofs.Levels.{Levels, levels_first, spread_blocked, spread_last, spread_more, spread_still}
 use Rattle.moves.proofs.spread.spread.Goals as goal
 
-words-two : (costs : List ℕ) {words : List ℕ} → words ≡ open_words costs → length words ≡ 2
+words_two : (costs : List ℕ) {words : List ℕ} → words ≡ open_words costs → length words ≡ 2
 unfolding open_words
-words-two costs e = ap length e ∙ length_tabulate (open_word costs) 2 0
+words_two costs e = ap length e ∙ length_tabulate (open_word costs) 2 0
 
 at_last : {f : ℕ → ℕ} {l : List ℕ} {d : ℕ} → Levels f l (d + 1) → d ≡ 100 → Levels f l 101
 at_last {f} {l} all e = rw e at all
@@ -29,7 +29,7 @@ loop-d-init c = let start = c in
 
 pub grow-requires : goal.grow-requires
 grow-requires c = let start = c in
-    (words-two _ start.requires.1, c.loop-d-test.true, c.loop-d.invariant.1.long)
+    (words_two _ start.requires.1, c.loop-d-test.true, c.loop-d.invariant.1.long)
 
 pub returns-then-grow-eq0 : goal.returns-then-grow-eq0
 returns-then-grow-eq0 c = let at = c in

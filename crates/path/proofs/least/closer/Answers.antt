@@ -16,8 +16,8 @@ use Rattle.path.proofs.least.closer.Goals.{After-head_of-v}
 pos : (n : After-head_of-v) → 0 < get_or n.args.table.now n.args.a 0
 pos n = omega (arith, n.if-w-eq0.false)
 
-in-v : (n : After-head_of-v) → n.head_of-v.result < portal_count n.args.m
-in-v n =
+in_v : (n : After-head_of-v) → n.head_of-v.result < portal_count n.args.m
+in_v n =
     arrives n.args.m n.args.table.now n.args.keys.now n.args.keys.now n.args.a n.args.u n.requires.2 n.head_of-v.result n.head_of-v.ensures
     (searched_of n.requires.0).graph.sound n.requires.1 (pos n)
 
@@ -36,10 +36,10 @@ returns-then-key-w c = let start = c in record { is = too_short start.args.m sta
       c.if-key-w.true; some = start.requires.3 }
 
 pub offset_bounds-keys-v : goal.offset_bounds-keys-v
-offset_bounds-keys-v c = omega (arith, in-v c, (searched_of c.requires.0).few)
+offset_bounds-keys-v c = omega (arith, in_v c, (searched_of c.requires.0).few)
 
 pub bounds-keys-v : goal.bounds-keys-v
-bounds-keys-v c = omega (arith, in-v (goal.at.bounds-keys-v c).After-head_of-v, c.requires.0.numbers)
+bounds-keys-v c = omega (arith, in_v (goal.at.bounds-keys-v c).After-head_of-v, c.requires.0.numbers)
 
 pub returns-then-key-w-2 : goal.returns-then-key-w-2
 returns-then-key-w-2 c = let n = c in record { is = not_exact n.args.m n.args.table.now (node_rank (decode n.args.st.now)) n.args.keys.now n.args.u n.args.a

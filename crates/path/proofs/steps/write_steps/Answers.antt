@@ -29,20 +29,20 @@ module _ (c : At-loop-i) (k : ℕ) (l : k < c.args.n) where
   in_path : get_or (take c.args.n c.args.nodes.now) k 0 ≡ get_or c.args.nodes.now k 0
   in_path = get_or-take c.args.n c.args.nodes.now k 0 l
 
-  portal-at : is_portal (decode c.args.st.now) (get_or c.args.nodes.now k 0) ≡ true
-  portal-at = rw (← in_path) (c.requires.2.each k (omega (arith, long c)))
+  portal_at : is_portal (decode c.args.st.now) (get_or c.args.nodes.now k 0) ≡ true
+  portal_at = rw (← in_path) (c.requires.2.each k (omega (arith, long c)))
 
   sector_low : portal_sector (get_or c.args.nodes.now k 0) < 256
-  sector_low = omega (arith, portal_sector_lem c.requires.0 (get_or c.args.nodes.now k 0) portal-at, (accepted_of c.requires.0).few_sectors)
+  sector_low = omega (arith, portal_sector_lem c.requires.0 (get_or c.args.nodes.now k 0) portal_at, (accepted_of c.requires.0).few_sectors)
 
-  fits-at : Fits w64 (get_or c.args.nodes.now k 0)
-  fits-at = omega (arith, sector_low)
+  fits_at : Fits w64 (get_or c.args.nodes.now k 0)
+  fits_at = omega (arith, sector_low)
 
 pub loop-i-init : goal.loop-i-init
 loop-i-init c = search (rules, stepped_none)
 
 pub step_at-requires : goal.step_at-requires
-step_at-requires c = let at = c in (at.requires.0, portal-at (goal.at.step_at-requires c).At-loop-i _ (omega arith))
+step_at-requires c = let at = c in (at.requires.0, portal_at (goal.at.step_at-requires c).At-loop-i _ (omega arith))
 
 pub loop-i-preserved : goal.loop-i-preserved
 loop-i-preserved c =

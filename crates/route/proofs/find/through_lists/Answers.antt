@@ -31,8 +31,8 @@ same_runs p q e f k = rw (e, f, k)
 same_route : (h : Hall) (goal p e i j : ℕ) {a b x y : List ℕ} → a ≡ b → x ≡ y → pair_route h goal p e (get_or a i 0) (get_or x j 0) ≡ pair_route h goal p e (get_or b i 0) (get_or y j 0)
 same_route h goal p e i j f k = rw (f, k)
 
-legs-are : (c : After-choose_pair-k) → c.portal_moves.new.near ≡ portal_moves (decode c.args.st.now) c.args.source
-legs-are c = c.portal_moves.ensures
+legs_are : (c : After-choose_pair-k) → c.portal_moves.new.near ≡ portal_moves (decode c.args.st.now) c.args.source
+legs_are c = c.portal_moves.ensures
 
 lasts_are : (c : After-choose_pair-k) → c.portal_moves-2.new.near ≡ portal_moves (decode c.args.st.now) c.args.goal
 lasts_are c = c.portal_moves-2.ensures
@@ -41,22 +41,22 @@ foremost : (c : After-choose_pair-k) → Foremost (run_at (decode c.args.st.now)
 foremost c =
     let link : Linked c.args.m c.args.st.now c.fill_edges.new.table (length c.args.keys.now) = record { opened = c.requires.0; filled = c.fill_edges.ensures; numbers = c.requires.4 } in
     subst (λ (runs : ℕ → ℕ). Foremost runs unlinked sector_pairs c.choose_pair-k.result)
-    (same_runs (sector_of c.args.source * sector_portals) (sector_of c.args.goal * sector_portals) (graph_is link) (legs-are c) (lasts_are c)) c.choose_pair-k.ensures
+    (same_runs (sector_of c.args.source * sector_portals) (sector_of c.args.goal * sector_portals) (graph_is link) (legs_are c) (lasts_are c)) c.choose_pair-k.ensures
 
 chosen : (c : After-choose_pair-k) → c.choose_pair-k.result < sector_pairs → Chosen (decode c.args.st.now) c.args.source c.args.goal c.choose_pair-k.result
 chosen c l = chosen_some (decode c.args.st.now) c.args.source c.args.goal (fits_of c.requires.0) (foremost c) l
 
 -- the route over it, with leg and last moves as they were read
-found-is : (c : After-choose_pair-k) → c.choose_pair-k.result < sector_pairs → let s = c in let k = c.choose_pair-k.result in
+found_is : (c : After-choose_pair-k) → c.choose_pair-k.result < sector_pairs → let s = c in let k = c.choose_pair-k.result in
     through_portals (decode s.args.st.now) (portal_graph (decode s.args.st.now)) s.args.source s.args.goal
     ≡ pair_route (decode s.args.st.now) s.args.goal (place_portal (sector_of s.args.source) (k / sector_portals)) (place_portal (sector_of s.args.goal) (k % sector_portals))
     (get_or c.portal_moves.new.near (k / sector_portals) 0)
     (get_or c.portal_moves-2.new.near (k % sector_portals) 0)
-found-is c l =
+found_is c l =
     let s = c in
     let k = c.choose_pair-k.result in
     pair_found (decode s.args.st.now) (fits_of s.requires.0) s.args.source s.args.goal (chosen c l)
-    ∙ same_route (decode s.args.st.now) s.args.goal _ _ (k / sector_portals) (k % sector_portals) (sym (legs-are c)) (sym (lasts_are c))
+    ∙ same_route (decode s.args.st.now) s.args.goal _ _ (k / sector_portals) (k % sector_portals) (sym (legs_are c)) (sym (lasts_are c))
 
 pub choose_pair-k-requires : goal.choose_pair-k-requires
 choose_pair-k-requires c =
@@ -89,5 +89,5 @@ returns c =
     let l = c in
     let call = c.through_pair in
     let k = l in
-    let f = found-is (goal.at.returns c).After-choose_pair-k l.if-k-ge-PAIRS.false in
+    let f = found_is (goal.at.returns c).After-choose_pair-k l.if-k-ge-PAIRS.false in
     record { answer = call.ensures.answer ∙ ap found_answer (sym f); steps = call.ensures.steps ∙ ap (λ (x : Found). found_into x k.args.list.now) (sym f) }

@@ -18,51 +18,51 @@ use borrow.Author.Rules.{rules}
 use Rattle.route.proofs.find.through_pair.Goals as goal
 use Rattle.route.proofs.find.through_pair.Goals.{After-keys_to, After-least_path-n, Start}
 
-same-sectors : (s : Start) → sectors (decode s.args.st.now).measures ≡ sectors s.args.m
-same-sectors s = ap sectors (measures_are s.requires.0.opened)
+same_sectors : (s : Start) → sectors (decode s.args.st.now).measures ≡ sectors s.args.m
+same_sectors s = ap sectors (measures_are s.requires.0.opened)
 
-start-low : (s : Start) → s.args.p < portal_count s.args.m
-start-low s = omega (arith, (portal_is _ _ s.requires.1.start).inside, same-sectors s)
+start_low : (s : Start) → s.args.p < portal_count s.args.m
+start_low s = omega (arith, (portal_is _ _ s.requires.1.start).inside, same_sectors s)
 
 fits : (s : Start) → Fits (decode s.args.st.now)
 fits s = fits_of s.requires.0.opened
 
 -- the keys are those to the end portal
-keys-are : (c : After-keys_to) → c.keys_to.new.keys ≡ keys_to (portal_graph (decode c.args.st.now)) c.args.e
-keys-are c = c.keys_to.ensures ∙ ap (λ (g : Graph). keys_to g c.args.e) (graph_is c.requires.0)
+keys_are : (c : After-keys_to) → c.keys_to.new.keys ≡ keys_to (portal_graph (decode c.args.st.now)) c.args.e
+keys_are c = c.keys_to.ensures ∙ ap (λ (g : Graph). keys_to g c.args.e) (graph_is c.requires.0)
 
 linked : (c : After-keys_to) → Linked c.args.m c.args.st.now c.args.table.now (length c.keys_to.new.keys)
 linked c = record { opened = c.requires.0.opened; filled = c.requires.0.filled; numbers = c.keys_to.auto.keys ∙ c.requires.0.numbers }
 
 -- the path fits the list of portals
-few-portals : (l : After-least_path-n) → (l.least_path-n.result ≤ length l.least_path-n.new.nodes) × (length l.least_path-n.new.nodes ≡ hall_portals)
-few-portals l = let s = l in (
+few_portals : (l : After-least_path-n) → (l.least_path-n.result ≤ length l.least_path-n.new.nodes) × (length l.least_path-n.new.nodes ≡ hall_portals)
+few_portals l = let s = l in (
   taken_few _ (fits_of s.requires.0.opened) s.requires.1 _ _ _ (l.keys_to.ensures ∙ ap (λ (g : Graph). keys_to g l.args.e) (graph_is l.requires.0)) l.least_path-n.ensures.count l.least_path-n.ensures.portals l.least_path-n.auto.nodes,
   l.least_path-n.auto.nodes,
 )
 
 pub keys_to-requires : goal.keys_to-requires
 keys_to-requires c = let start = c in
-    record { searched = (searched_of start.requires.0, omega (arith, start.requires.1.end, same-sectors (goal.at.keys_to-requires c).Start)); both_ways = searched_both_ways start.requires.0 }
+    record { searched = (searched_of start.requires.0, omega (arith, start.requires.1.end, same_sectors (goal.at.keys_to-requires c).Start)); both_ways = searched_both_ways start.requires.0 }
 
 pub least_path-n-requires : goal.least_path-n-requires
 least_path-n-requires c =
     let k = c in
     let s = k in
-    record { linked = (linked (goal.at.least_path-n-requires c).After-keys_to, start-low (goal.at.least_path-n-requires c).Start, rw (keys-are (goal.at.least_path-n-requires c).After-keys_to) s.requires.1.linked, omega (arith, (accepted_of s.requires.0.opened).few_sectors)); by_index = (s.args.e, omega (arith, s.requires.1.end, same-sectors (goal.at.least_path-n-requires c).Start), keys-are (goal.at.least_path-n-requires c).After-keys_to) }
+    record { linked = (linked (goal.at.least_path-n-requires c).After-keys_to, start_low (goal.at.least_path-n-requires c).Start, rw (keys_are (goal.at.least_path-n-requires c).After-keys_to) s.requires.1.linked, omega (arith, (accepted_of s.requires.0.opened).few_sectors)); by_index = (s.args.e, omega (arith, s.requires.1.end, same_sectors (goal.at.least_path-n-requires c).Start), keys_are (goal.at.least_path-n-requires c).After-keys_to) }
 
 pub offset_bounds-keys-p : goal.offset_bounds-keys-p
-offset_bounds-keys-p c = let s = c in omega (arith, start-low (goal.at.offset_bounds-keys-p c).Start, (accepted_of s.requires.0.opened).few_sectors)
+offset_bounds-keys-p c = let s = c in omega (arith, start_low (goal.at.offset_bounds-keys-p c).Start, (accepted_of s.requires.0.opened).few_sectors)
 
 pub bounds-keys-p : goal.bounds-keys-p
-bounds-keys-p c = let k = c in omega (arith, start-low (goal.at.bounds-keys-p c).Start, (linked (goal.at.bounds-keys-p c).After-keys_to).numbers)
+bounds-keys-p c = let k = c in omega (arith, start_low (goal.at.bounds-keys-p c).Start, (linked (goal.at.bounds-keys-p c).After-keys_to).numbers)
 
 pub returns-then-list-steps : goal.returns-then-list-steps
 returns-then-list-steps c =
     let counted = c in
     let l = counted in
     let s = l in
-    let both = pair_no_room _ (fits (goal.at.returns-then-list-steps c).Start) s.requires.1 _ _ _ (keys-are (goal.at.returns-then-list-steps c).After-keys_to) l.least_path-n.ensures.count l.least_path-n.ensures.portals _ _ _ _ counted.step_count-steps.ensures c.if-list-steps.true in
+    let both = pair_no_room _ (fits (goal.at.returns-then-list-steps c).Start) s.requires.1 _ _ _ (keys_are (goal.at.returns-then-list-steps c).After-keys_to) l.least_path-n.ensures.count l.least_path-n.ensures.portals _ _ _ _ counted.step_count-steps.ensures c.if-list-steps.true in
     record { answer = both.0; steps = both.1 }
 
 pub write_steps-requires : goal.write_steps-requires
@@ -72,8 +72,8 @@ write_steps-requires c =
     let l = counted in
     let s = l in (
       s.requires.0.opened,
-      (few-portals (goal.at.write_steps-requires c).After-least_path-n).0,
-      taken_path _ (fits (goal.at.write_steps-requires c).Start) s.requires.1 _ _ _ (keys-are (goal.at.write_steps-requires c).After-keys_to) l.least_path-n.ensures.count l.least_path-n.ensures.portals,
+      (few_portals (goal.at.write_steps-requires c).After-least_path-n).0,
+      taken_path _ (fits (goal.at.write_steps-requires c).Start) s.requires.1 _ _ _ (keys_are (goal.at.write_steps-requires c).After-keys_to) l.least_path-n.ensures.count l.least_path-n.ensures.portals,
       omega (arith, counted.step_count-steps.ensures, room.if-list-steps.false),
     )
 
@@ -83,6 +83,6 @@ returns c =
     let counted = room in
     let l = counted in
     let s = l in
-    let both = pair_written _ (fits (goal.at.returns c).Start) s.requires.1 _ _ _ (keys-are (goal.at.returns c).After-keys_to) l.least_path-n.ensures.count l.least_path-n.ensures.portals _ _ _ _ counted.step_count-steps.ensures
+    let both = pair_written _ (fits (goal.at.returns c).Start) s.requires.1 _ _ _ (keys_are (goal.at.returns c).After-keys_to) l.least_path-n.ensures.count l.least_path-n.ensures.portals _ _ _ _ counted.step_count-steps.ensures
         room.if-list-steps.false c.write_steps.ensures in
     record { answer = both.0; steps = both.1 }
