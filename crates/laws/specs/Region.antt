@@ -2,8 +2,8 @@
 -- `within` has the shape that the borrow checker gives a list whose part `&mut s[a..a + n]` came back from a call (`put_mid`).
 use Rattle.std.specs.Prelude.{◌≡◌, refl, ℕ, ◌+◌, ◌-◌, ◌≤◌, ◌<◌, length, get_or, set}
 use Rattle.std.proofs.Math.Path.{sym, ap}
-use Rattle.std.proofs.Common.{◌∙◌, add-zero, add_assoc, not-suc-le-zero, le_of_suc-le-suc, length-append, take-append-drop, drop_of_length-le, drop-drop, get_or-take, get_or-drop, length-take-le, take_all, ext_get_or}
-use mathlib.Core.List.{List, [], ◌∷◌, ◌++◌, append-nil}
+use Rattle.std.proofs.Common.{◌∙◌, add-zero, add_assoc, not-suc-le-zero, le_of_suc-le-suc, length-append, take-append-drop, drop-drop, get_or-take, get_or-drop, length-take-le, ext_get_or}
+use mathlib.Core.List.{List, [], ◌∷◌, ◌++◌}
 use Rattle.std.proofs.Math.Nat.{add-sub_cancel_left}
 use native.Mathlib.Omega.{arith}
 use Rattle.std.proofs.Math.ListN.{take, drop, length-take, length-drop}

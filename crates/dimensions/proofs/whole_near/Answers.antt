@@ -1,9 +1,8 @@
 -- `whole_near` gives the whole neighbours: each return is a law of Bits.antt.
-use Prim.Native.Nat.{◌-◌}
 use native.Mathlib.Omega.{arith}
 use lib.Ieee.{Float, of_bits}
 use borrow.Author.Rules.{rules}
-use Rattle.dimensions.proofs.Bits.{Part, field, part, no_nan, near_none, near_small, near_large, near_digits, part_at}
+use Rattle.dimensions.proofs.Bits.{near_none, near_small, near_large, near_digits}
 use Rattle.dimensions.proofs.whole_near.Goals as goal
 use Rattle.dimensions.proofs.whole_near.Goals.{Else-field-gt130}
 

@@ -1,6 +1,4 @@
 -- `copy_part` puts the region of one list in place of that of the other.
-use native.Mathlib.Omega.{arith}
-use lib.ListN.{length-take, length-drop}
 use Rattle.fields.specs.Copies.{part_came}
 use borrow.Author.Rules.{rules}
 use Rattle.fields.proofs.copies.copy_part.Goals as goal

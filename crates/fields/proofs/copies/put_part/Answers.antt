@@ -1,6 +1,5 @@
 -- `put_part` puts a list in place of a region as long.
 use Rattle.laws.specs.Region.{part_put}
-use borrow.Author.Rules.{rules}
 use Rattle.fields.proofs.copies.put_part.Goals as goal
 
 pub returns : goal.returns

@@ -1,8 +1,5 @@
 -- `on_floor` answers whether a shift leads to a sector of the floor: both axes are tested.
-use native.Mathlib.Omega.{arith}
-use native.Mathlib.Nat.{div-le_self, mod-le}
 use Rattle.model.specs.Directions.{on_floor}
-use borrow.Author.Rules.{rules}
 use Rattle.fields.proofs.directions.on_floor.Goals as goal
 
 pub returns-then-on_axis : goal.returns-then-on_axis

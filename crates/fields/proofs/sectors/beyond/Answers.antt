@@ -1,6 +1,5 @@
 -- `beyond` answers the sector beyond a side: each return goes by its side.
 use Rattle.model.specs.Sectors.{beyond}
-use borrow.Author.Rules.{rules}
 use Rattle.fields.proofs.sectors.beyond.Goals as goal
 
 pub returns-in-North : goal.returns-in-North

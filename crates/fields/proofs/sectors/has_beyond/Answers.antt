@@ -1,8 +1,5 @@
 -- `has_beyond` answers whether there is a sector beyond a side: each return goes by its side.
-use native.Mathlib.Omega.{arith}
-use native.Mathlib.Nat.{mod-le}
 use Rattle.model.specs.Sectors.{has_beyond}
-use borrow.Author.Rules.{rules}
 use Rattle.fields.proofs.sectors.has_beyond.Goals as goal
 
 pub returns-in-North : goal.returns-in-North

@@ -1,7 +1,6 @@
 -- `any_bad_mark` answers whether a mark of a store is refused, as large, or at the end of a side.
 use Rattle.model.specs.Store.{marks_in}
 use Rattle.store.specs.Ends.{bad_any}
-use borrow.Author.Rules.{rules}
 use Rattle.store.proofs.check.any_bad_mark.Goals as goal
 
 pub returns-then-any_large : goal.returns-then-any_large

@@ -1,8 +1,6 @@
 -- `any_end` searches the sides.
-use Prim.Native.Nat.{◌-◌}
-use Rattle.laws.specs.Search.{Clear, seeking}
-use Rattle.model.specs.Store.{marks_in}
-use Rattle.store.specs.Ends.{side_ends, end_within, side_found}
+use Rattle.laws.specs.Search.{seeking}
+use Rattle.store.specs.Ends.{end_within, side_found}
 use borrow.Author.Rules.{rules}
 use Rattle.store.proofs.check.any_end.Goals as goal
 

@@ -1,9 +1,8 @@
 -- `any_end` searches the sides.
 use Prim.Native.Nat.{◌-◌}
-use Rattle.laws.specs.Search.{Clear, seeking}
+use Rattle.laws.specs.Search.{Clear}
 use Rattle.model.specs.Store.{marks_in}
-use Rattle.store.specs.Ends.{side_ends, end_within, side_found}
-use borrow.Author.Rules.{rules}
+use Rattle.store.specs.Ends.{side_ends}
 use Rattle.store.proofs.check.any_end.Given as goal
 
 abbrev pub invariant-loop-n : goal.invariant-loop-n

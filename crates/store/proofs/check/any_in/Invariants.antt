@@ -1,11 +1,8 @@
 -- `any_in` searches a line of sectors.
-use Prim.Native.Nat.{◌-◌, ◌<◌}
-use native.Mathlib.Omega.{arith}
-use Rattle.laws.specs.Search.{Clear, seeking}
-use Rattle.model.specs.Sectors.{sectors}
+use Prim.Native.Nat.{◌-◌}
+use Rattle.laws.specs.Search.{Clear}
 use Rattle.model.specs.Store.{marks_in}
-use Rattle.store.specs.Ends.{sector_in, line_mark}
-use borrow.Author.Rules.{rules}
+use Rattle.store.specs.Ends.{line_mark}
 use Rattle.store.proofs.check.any_in.Given as goal
 
 abbrev pub invariant-loop-i : goal.invariant-loop-i

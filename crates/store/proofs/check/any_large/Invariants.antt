@@ -1,9 +1,8 @@
 -- `any_large` answers whether a mark is above 1,023: no mark passed is.
 use Prim.Native.Nat.{◌-◌}
-use Rattle.laws.specs.Search.{Clear, seeking}
+use Rattle.laws.specs.Search.{Clear}
 use Rattle.model.specs.Store.{marks_in}
 use Rattle.store.specs.Ends.{is_above}
-use borrow.Author.Rules.{rules}
 use Rattle.store.proofs.check.any_large.Given as goal
 
 abbrev pub invariant-loop-k : goal.invariant-loop-k

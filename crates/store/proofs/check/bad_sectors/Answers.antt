@@ -1,6 +1,5 @@
 -- `bad_sectors` answers refusal 11: columns first, then rows.
 use Rattle.model.specs.Accepted.{bad_sectors}
-use borrow.Author.Rules.{rules}
 use Rattle.store.proofs.check.bad_sectors.Goals as goal
 
 pub returns-then-is_outside : goal.returns-then-is_outside

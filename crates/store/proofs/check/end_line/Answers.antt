@@ -1,10 +1,7 @@
 -- `end_line` answers the line of sectors at a side's end: each return goes by its side.
 use native.Mathlib.Omega.{arith}
-use Prim.Native.Nat.{◌-◌}
 use Rattle.model.specs.declared.Side.TheVariants.{North, East, South, West}
-use Rattle.fields.specs.Bounds.{bytes_product}
 use Rattle.store.specs.Ends.{end_line, line_is}
-use borrow.Author.Rules.{rules}
 use Rattle.store.proofs.check.end_line.Goals as goal
 
 pub returns-in-North : goal.returns-in-North

@@ -1,9 +1,6 @@
 -- `put_mark` sets the two bytes of a mark.
 use mathlib.Core.Path.{refl}
-use native.Mathlib.Omega.{arith}
-use lib.ListN.{length-set}
 use Rattle.store.specs.Layout.{set_mark}
-use borrow.Author.Rules.{rules}
 use Rattle.store.proofs.layout.put_mark.Goals as goal
 
 pub returns : goal.returns

@@ -1,7 +1,5 @@
 -- `put_marks` writes the bytes of marks: those of the marks passed stand in front.
-use Prim.Native.Nat.{◌-◌}
-use lib.ListN.{length}
-use Rattle.store.proofs.Laying.{MarksPut, marking}
+use Rattle.store.proofs.Laying.{marking}
 use borrow.Author.Rules.{rules}
 use Rattle.store.proofs.layout.put_marks.Goals as goal
 

@@ -1,8 +1,7 @@
 -- `put_marks` writes the bytes of marks: those of the marks passed stand in front.
 use Prim.Native.Nat.{◌-◌}
 use lib.ListN.{length}
-use Rattle.store.proofs.Laying.{MarksPut, marking}
-use borrow.Author.Rules.{rules}
+use Rattle.store.proofs.Laying.{MarksPut}
 use Rattle.store.proofs.layout.put_marks.Given as goal
 
 abbrev pub invariant-loop-k : goal.invariant-loop-k

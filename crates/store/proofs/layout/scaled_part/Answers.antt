@@ -3,7 +3,6 @@ use native.Mathlib.Omega.{arith}
 use lib.ListN.{length-take, length-drop}
 use Prim.Native.Nat.{◌+◌}
 use Rattle.store.specs.Layout.{part_is}
-use borrow.Author.Rules.{rules}
 use Rattle.store.proofs.layout.scaled_part.Goals as goal
 
 pub returns : goal.returns

@@ -3,7 +3,6 @@ use Prim.Native.Nat.{◌+◌, ◌*◌}
 use native.Mathlib.Omega.{arith}
 use lib.ListN.{length-take, length-drop}
 use Rattle.store.specs.Layout.{sector_is}
-use borrow.Author.Rules.{rules}
 use Rattle.store.proofs.layout.sector_part.Goals as goal
 
 pub returns : goal.returns

@@ -1,6 +1,5 @@
 -- `write_hall` writes the parts of a hall one after the other.
 use Rattle.store.proofs.Laying.{written_by}
-use borrow.Author.Rules.{rules}
 use Rattle.store.proofs.layout.write_hall.Goals as goal
 
 pub returns : goal.returns
