@@ -12,6 +12,9 @@ import sys
 
 CRATES = pathlib.Path(__file__).resolve().parent.parent / "crates"
 
+# A law that stands though the check proves what cited it without it.
+UNCITED = "a law that the check no longer needs to be told"
+
 # Names with a reader outside the crates: a folder, a file, or a file and a name.
 KEPT = {
     "audit/specs": "the theorems that docs/AUDIT.md names",
@@ -27,25 +30,48 @@ KEPT = {
     "reach/src": "demand 3 of the calls",
     "records/src": "the route call on step records",
     "hallroute/specs/Printed.antt": "what the program prints, for its reader",
-    "model/specs/FileCosts.antt:two-places": "what 28 says of a file, for its reader",
-    "model/specs/FileCosts.antt:places-two": "what 28 says of a file, for its reader",
-    "model/specs/FileCosts.antt:read-fills": "what an accepted file gives, for its reader",
-    "model/specs/FileOnly.antt:only-file": "what 02 says of a file fixes it, for its reader",
-    "model/specs/FileWritten.antt:length-decides": "what read file asks of a written file, for its reader",
-    "model/specs/FileWritten.antt:file-most": "the longest file, for its reader",
-    "model/specs/FileWritten.antt:room-enough": "the room for any file, for its reader",
-    "model/specs/FileWritten.antt:same-floor": "two stores with one file, for their reader",
-    "model/specs/PlainFloor.antt:landing-on": "01's landings as plain floor arithmetic, for their reader",
-    "model/specs/PlainFloor.antt:landing-moved": "01's landings as plain floor arithmetic, for their reader",
-    "model/specs/RouteChosen.antt:chosen-leads": "01's choice of a pair, for its reader",
-    "model/specs/RouteChosen.antt:chosen-none": "01's choice of a pair, for its reader",
-    "model/specs/WindowRuns.antt:in-order": "01's order of windows, for its reader",
+    "model/specs/FileCosts.antt:two_places": "what 28 says of a file, for its reader",
+    "model/specs/FileCosts.antt:places_two": "what 28 says of a file, for its reader",
+    "model/specs/FileCosts.antt:read_fills": "what an accepted file gives, for its reader",
+    "model/specs/FileOnly.antt:only_file": "what 02 says of a file fixes it, for its reader",
+    "model/specs/FileWritten.antt:length_decides": "what read file asks of a written file, for its reader",
+    "model/specs/FileWritten.antt:file_most": "the longest file, for its reader",
+    "model/specs/FileWritten.antt:room_enough": "the room for any file, for its reader",
+    "model/specs/FileWritten.antt:same_floor": "two stores with one file, for their reader",
+    "model/specs/PlainFloor.antt:landing_on": "01's landings as plain floor arithmetic, for their reader",
+    "model/specs/PlainFloor.antt:landing_moved": "01's landings as plain floor arithmetic, for their reader",
+    "model/specs/RouteChosen.antt:chosen_leads": "01's choice of a pair, for its reader",
+    "model/specs/RouteChosen.antt:chosen_none": "01's choice of a pair, for its reader",
+    "model/specs/WindowRuns.antt:in_order": "01's order of windows, for its reader",
+    "fields/specs/Bounds.antt:bytes_product": UNCITED,
+    "file/specs/Making.antt:open_with": UNCITED,
+    "graph/specs/EdgeTable.antt:row_none": UNCITED,
+    "graph/specs/Reading.antt:room_of": UNCITED,
+    "laws/specs/FirstLeast.antt:picked_none": UNCITED,
+    "laws/specs/FirstLeast.antt:picked_take": UNCITED,
+    "laws/specs/FirstLeast.antt:picked_skip": UNCITED,
+    "laws/specs/FirstLeast.antt:foremost_within": UNCITED,
+    "laws/specs/Region.antt:header_set": UNCITED,
+    "laws/specs/Table.antt:tabled_at": UNCITED,
+    "laws/specs/Table.antt:tabled_fill": UNCITED,
+    "laws/specs/Turns.antt:turned_none": UNCITED,
+    "laws/specs/Turns.antt:lined_none": UNCITED,
+    "laws/specs/Turns.antt:lined_skip": UNCITED,
+    "laws/specs/Turns.antt:lined_take": UNCITED,
+    "laws/specs/Turns.antt:lined_alone": UNCITED,
+    "path/specs/Following.antt:walk_long": UNCITED,
+    "records/specs/Filling.antt:filled_length": UNCITED,
+    "search/specs/Searching.antt:searched_in": UNCITED,
+    "walks/specs/Lines.antt:reached_none": UNCITED,
+    "walks/specs/Lines.antt:reached_lt": UNCITED,
+    "walks/specs/Lines.antt:reached_room": UNCITED,
+    "walks/specs/Showing.antt:row_fits": UNCITED,
 }
 
 SPLIT = re.compile(r"[\s(){}\[\],;.⌜⌝⟦⟧:]+")
 DECLARED = re.compile(r"^( *)(?:abbrev |unfoldable )?pub (record |data |ruleset )?(\S+)")
 USE = re.compile(r"\buse ([^\s{};]+?)(?:\.\{([^}]*)\}| as (\S+?))?;?$")
-MODULE = re.compile(r"Rattle·(\w+?)(?:·specs|·proofs)?\.(.*)$")
+MODULE = re.compile(r"Rattle\.(\w+)\.(.*)$")
 MARKS = r"(?:pub |abbrev |unfoldable |record |data |ruleset |fn |struct |enum |const )"
 
 
@@ -103,7 +129,7 @@ def names_brought(lines):
             continue
         if found.group(2) is None:
             behind = found.group(3) or at.group(2).split(".")[-1]
-            names = re.findall(rf"(?<![\w·.]){re.escape(behind)}\.([^\s(){{}}\[\],;.]+)", text)
+            names = re.findall(rf"(?<![\w.]){re.escape(behind)}\.([^\s(){{}}\[\],;.]+)", text)
         else:
             names = [name.split(" as ")[0].strip() for name in found.group(2).split(",")]
         out.setdefault(at.groups(), set()).update(names)
@@ -144,7 +170,7 @@ def mentioned(name, lines):
 
 def unused_in(path, lines, used, sources):
     where = str(path.relative_to(CRATES))
-    if path.name == "Proof.antt" or any(where == kept or where.startswith(kept + "/") for kept in KEPT):
+    if path.name in ("Answers.antt", "Invariants.antt") or any(where == kept or where.startswith(kept + "/") for kept in KEPT):
         return []
     if path.suffix == ".rt":
         declared = {module.split(".")[2] for _, module in used if module.startswith("specs.declared.")}
@@ -163,12 +189,12 @@ def idle_in(path, lines):
     uses = [found for line in lines if (found := USE.search(line.strip())) and "pub " not in line]
     here = set(re.split(r"[\s(){},.;@«»]+", "\n".join(line for line in lines if not USE.search(line.strip()))))
     names = [name.split(" as ")[-1].strip(" «»") for found in uses if found.group(2) for name in found.group(2).split(",")]
-    return [(str(path.relative_to(CRATES)), name) for name in names if name not in here and not set(filter(None, name.split("_"))) <= here]
+    return [(str(path.relative_to(CRATES)), name) for name in names if name not in here and not set(filter(None, name.split("◌"))) <= here]
 
 
 def main():
     chosen = set(sys.argv[1:])
-    lines = {path: code_of(path) for path in sorted(CRATES.rglob("*")) if path.suffix in (".antt", ".rt")}
+    lines = {path: code_of(path) for path in sorted(CRATES.rglob("*")) if path.suffix in (".antt", ".rt") and "out" not in path.parts}
     used = all_brought(lines)
     sources = {path: words(lines[path]) for path in lines if path.suffix == ".rt"}
     files = [path for path in lines if not chosen or path.relative_to(CRATES).parts[0] in chosen]

@@ -1,21 +1,20 @@
 -- Facts for the proofs of changing: sides that exceed, the hall after a change, and what is answered and left in the store.
 use mathlib.Core.Path.{◌≡◌, refl, sym, ap, ◌∙◌}
 use mathlib.Core.Bool.{Bool, true, false, ◌&&◌, not}
-use mathlib.Core.List.{List, [], ◌∷◌, ◌++◌}
+use mathlib.Core.List.{List, [], ◌∷◌}
 use Prim.Native.Nat.{ℕ, zero, suc, ◌+◌, ◌*◌, ◌/◌, ◌%◌, ◌≤◌, ◌<◌}
 use native.Mathlib.Nat.{not-suc-le-zero, le_of_suc-le-suc}
 use native.Mathlib.Omega.{arith}
 use native.Mathlib.Decide.{dec_lt}
 use lib.Dec.{ltb}
-use lib.ListN.{length, get_or, set, take, drop}
+use lib.ListN.{length, get_or, set}
 use Rattle.laws.specs.Fold.{pick}
 use Rattle.laws.specs.Ladder.{refuse}
 use Rattle.laws.specs.Table.{tabulate, length_tabulate, tabulate_at}
 use Rattle.model.specs.declared.Measures.{Measures}
 use Rattle.model.specs.declared.Side.{Side}
 use Rattle.model.specs.Cells.{side_number, side_at, opposite}
-use Rattle.model.specs.Sectors.{sectors, cells, sector_of, beyond, has_beyond}
-use Rattle.model.specs.Sides.{side_low}
+use Rattle.model.specs.Sectors.{sectors, sector_of, beyond, has_beyond}
 use Rattle.model.specs.SectorSides.{beyond_low}
 use Rattle.model.specs.Accepted.{Accepted}
 use Rattle.model.specs.Windows.{bits, open_place, mark_of, window_count}
@@ -24,24 +23,14 @@ use Rattle.model.specs.Store.{measures_at, marks_in, hall_in, decode, written}
 use Rattle.model.specs.Change.{is_nearby, rescaled, remarked, changed, exceeds_at, exceeds}
 use Rattle.model.specs.Calls.{if_accepted}
 use Rattle.store.specs.Layout.{hall_of, hall_read}
-use Rattle.walks.specs.Costs.{Costs}
 use Rattle.builder.specs.Marks.{Small}
 use Rattle.builder.specs.Parts.{Changeable, altered_number, altered_into}
 
 -- ---- sides that exceed
-pub none_past : (l : List ℕ) (k : ℕ) → length l ≤ k → 0 ≡ get_or l k 0
+none_past : (l : List ℕ) (k : ℕ) → length l ≤ k → 0 ≡ get_or l k 0
 none_past [] k h = refl
 none_past (x ∷ l) zero h = absurd (not-suc-le-zero h)
 none_past (x ∷ l) (suc k) h = none_past l k (le_of_suc-le-suc h)
-
-pub side_few : (side : Side) {n : ℕ} → n ≡ side_number side → n ≤ 3
-side_few side e = omega (arith, side_low side)
-
-pub windows_counted : (marks : List ℕ) (s : ℕ) (side : Side) {n mark r : ℕ} → Small marks → n ≡ side_number side → mark ≡ get_or marks (s * 4 + n) 0 → (mark ≤ 1023 → r ≡ window_count mark)
-    → r ≡ window_count (get_or marks (s * 4 + side_number side) 0)
-windows_counted marks s side {n} k e is count =
-    let at = is ∙ ap (λ j. get_or marks (s * 4 + j) 0) e in
-    count (rw at (k.small (s * 4 + side_number side))) ∙ ap window_count at
 
 pub beyond_few : {m : Measures} (s : ℕ) (side : Side) {other : ℕ} → Accepted m → s ≤ 10000 → other ≡ beyond m s side → other ≤ 20000
 beyond_few {m} s side f l e = omega (arith, f.few_rows, beyond_low m s side)
@@ -59,9 +48,6 @@ module _ (m : Measures) (marks : List ℕ)
 
 -- ---- the hall after a change
 module _ {m : Measures} {st : List ℕ} {n : ℕ} (c : Changeable m st n) where
-  pub costs_changed : (xs : List ℕ) → length xs ≡ cells m → Costs m xs
-  costs_changed xs e = record { measures = c.measures; long = e }
-
   pub changed_by : (cost : ℕ) {b s s' k k' : List ℕ} → b ≡ (hall_in m st).base → s ≡ (hall_in m st).scaled → s' ≡ rescaled m (set b n cost) (n / 100) s
       → k ≡ marks_in m st → k' ≡ remarked m s' (n / 100) k → hall_of m (set b n cost) s' k' ≡ changed (decode st) n cost
   unfolding changed

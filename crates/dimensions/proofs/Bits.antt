@@ -1,13 +1,13 @@
 -- What an f32's bits say of its whole neighbours up to 16.
 use mathlib.Core.Path.{◌≡◌, refl, sym, ap, ap₂, ◌∙◌, subst}
-use mathlib.Core.Bool.{Bool, true, false, not, cond, true≢false, false≢true}
+use mathlib.Core.Bool.{Bool, true, false, cond, true≢false, false≢true}
 use Prim.Native.Nat.{ℕ, zero, suc, ◌+◌, ◌-◌, ◌*◌, ◌/◌, ◌%◌, ◌^◌, ◌≤◌, ◌<◌, min}
 use native.Mathlib.Nat.{suc-mul, add-mul, mul_comm, mul_assoc, mul-pos, div-div-eq-div-mul, mul-add-div_right, div-eq_of_lt, add-zero, zero-mul, mod-eq_of_lt}
 use native.Mathlib.Nat.{mul-le-mul, le-div_iff_mul-le, div-lt_iff_lt-mul, div-eq_of_lt-le, one-mul, mul-div_cancel, le-add_right, lt_of_le_of_lt, lt_of_lt_of_le, le_trans, not-suc-le-zero}
 use native.Mathlib.Omega.{arith}
 use lib.Dec.{T, leb, eqb, lit<, lit≤}
 use lib.Pow.{pow-add, pow_pos, pow_mono}
-use lib.Ieee.{Float, nan, inf, fin, binary32, up, down, lt, fits, is_nan, odd, of_fields, of_bits, to_bits}
+use lib.Ieee.{Float, nan, inf, fin, binary32, up, down, lt, fits, odd, of_fields, of_bits, to_bits}
 use lib.Ieee.Fits.{down_pos}
 use lib.Ieee.Bits.{of_bits-to_bits}
 use lib.Ieee.Exact.{HasValue, odd_sign}
@@ -118,12 +118,12 @@ fields_large (suc x) t l h = go (eqb (suc x) 255) (eqb t 0) h
         (mul-le-mul {n₁ = 8388608} {m₁ = 2 ^ 130} (omega arith) (pow_mono {i = 130} {j = x} (omega arith))) (odd_sign 24 false (8388608 + t) x 149)
 
 -- What the digits are divided by where the exponent's field is 127 + k: the product with their weight is 1.
-pub record Part (k part : ℕ) : Type 0 where
-  pub low : 2 ^ 20 ≤ part
-  pub high : part ≤ 2 ^ 23
-  pub weight : 2 ^ (126 + k) * part ≡ 2 ^ 149
+record Part (k part : ℕ) : Type 0 where
+  low : 2 ^ 20 ≤ part
+  high : part ≤ 2 ^ 23
+  weight : 2 ^ (126 + k) * part ≡ 2 ^ 149
 
-pub part_at : (k : ℕ) → k < 4 → Part k (8388608 / 2 ^ k)
+part_at : (k : ℕ) → k < 4 → Part k (8388608 / 2 ^ k)
 part_at k h =
     let j : 23 ≡ 23 - k + k = omega arith in
     let w : 126 + k + (23 - k) ≡ 149 = omega arith in
@@ -147,12 +147,6 @@ digits v = 8388608 + rest v
 
 abbrev pub part : Float → ℕ
 part v = 8388608 / 2 ^ (field v - 127)
-
-pub no_nan : (v : Float) → lt fzero v ≡ true → T (not (is_nan v))
-unfolding lt is_nan
-no_nan nan h = absurd (false≢true h)
-no_nan (inf s) h = tt
-no_nan (fin s m e) h = tt
 
 -- not above zero
 pub near_none : (v : Float) → lt fzero v ≡ false → Near v 0 0

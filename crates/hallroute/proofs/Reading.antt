@@ -53,9 +53,6 @@ module _ (file : List ℕ) where
   base_head h = bad_form 0 (rw (lt-ltb (length file) 5 h) (omega arith))
 
   module _ {m : Measures} {size : ℕ} (read : m ≡ measures_at file) (all : size ≡ cells m) where
-    pub base_all : read_number file size ≡ file_number file
-    base_all = ap (read_number file) (all ∙ ap cells read)
-
     pub base_large : 10000 < size → read_number file 0 ≡ file_number file
     unfolding form_number refuse
     base_large h =

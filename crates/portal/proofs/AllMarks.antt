@@ -4,8 +4,6 @@ use mathlib.Core.Bool.{Bool, true, ◌&&◌}
 use Prim.Native.Nat.{ℕ, suc, ◌+◌, ◌-◌, ◌*◌, ◌/◌, ◌%◌, ◌^◌, ◌≤◌, ◌<◌}
 use native.Mathlib.Nat.{lt_of_le_of_lt, le_antisymm}
 use native.Mathlib.Omega.{arith}
-use mir.Val.{Fits}
-use mir.Syntax.{w64}
 use lib.Dec.{leb, ltb, eqb}
 use lib.Bits.{bit_and, and_le_l}
 use lib.Count.{ones, ones-le, count_trailing_zeros}
@@ -51,9 +49,6 @@ passed = refl
 -- a u16 has at most 16 ones
 pub few_ones : (a b : ℕ) → a < 65536 → ones (bit_and a b) ≤ 16
 few_ones a b h = ones-le 16 (bit_and a b) (lt_of_le_of_lt (and_le_l a b) h)
-
-pub ones_fit : (a b : ℕ) → a < 65536 → Fits w64 (ones (bit_and a b))
-ones_fit a b h = omega (arith, few_ones a b h)
 
 -- The first window of a mark that has one, and the mark without it.
 pub record Split (mark : ℕ) : Type 0 where

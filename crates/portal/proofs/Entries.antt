@@ -16,7 +16,6 @@ use Rattle.model.specs.declared.Side.{Side}
 use Rattle.model.specs.Cells.{side_number, side_at}
 use Rattle.model.specs.Windows.{border, window_count, window_at, side_windows}
 use Rattle.model.specs.WindowRuns.{window_run}
-use Rattle.model.specs.Sides.{side_low}
 use Rattle.model.specs.Calls.{flat_windows}
 use Rattle.portal.specs.declared.runs.OpenRun.{OpenRun}
 use Rattle.portal.specs.Runs.{places_of}
@@ -31,9 +30,6 @@ module _ {mark j : ℕ} {run : OpenRun} (e : run ≡ places_of mark j) (m : mark
   last_inside = rw (ap (λ p. p.last) e) (window_run mark (omega arith) j h).inside
 
 pub ruleset inside = (first_inside, last_inside)
-
-pub side_small : (side : Side) {n : ℕ} → n ≡ side_number side → n < 256
-side_small side e = omega (arith, side_low side)
 
 pub window_is : (side : Side) (mark j : ℕ) {run : OpenRun} {a z n k : ℕ} → run ≡ places_of mark j → a ≡ border side run.«first» → z ≡ border side run.last → k ≡ side_number side → n ≡ k
     → record { «first» = a; last = z; side = n } ≡ window_at side mark j

@@ -1,5 +1,5 @@
 -- `replay_all` ends: the turns that are left fall, and the store keeps its length.
-use Rattle.std.proofs.Common.{◌≡◌, length, arith, rules}
+use Rattle.std.proofs.Common.{◌≡◌, length}
 use Rattle.floors.proofs.replay_all.Given as goal
 
 abbrev pub invariant-loop-turns : goal.invariant-loop-turns

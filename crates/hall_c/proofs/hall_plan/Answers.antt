@@ -1,7 +1,6 @@
 -- `hall_plan` answers what plan answers, flat.
 use mathlib.Core.Path.{ap, ◌∙◌}
 use Rattle.model.specs.Answers.{plan_case}
-use borrow.Author.Rules.{rules}
 use Rattle.hall_c.specs.Answers.{flat_measures}
 use Rattle.hall_c.proofs.hall_plan.Goals as goal
 

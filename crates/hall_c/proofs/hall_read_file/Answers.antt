@@ -1,7 +1,6 @@
 -- `hall_read_file` answers what read file answers, flat, and leaves the list as that leaves it.
 use mathlib.Core.Path.{ap, ◌∙◌}
 use Rattle.model.specs.Answers.{read_case}
-use borrow.Author.Rules.{rules}
 use Rattle.hall_c.specs.Answers.{flat_measures}
 use Rattle.hall_c.proofs.hall_read_file.Goals as goal
 

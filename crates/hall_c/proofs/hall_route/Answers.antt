@@ -1,7 +1,6 @@
 -- `hall_route` answers what route answers, flat, and leaves the list as that leaves it.
 use mathlib.Core.Path.{ap, ◌∙◌}
 use Rattle.model.specs.Answers.{route_case}
-use borrow.Author.Rules.{rules}
 use Rattle.hall_c.specs.Answers.{flat_route}
 use Rattle.hall_c.proofs.hall_route.Goals as goal
 

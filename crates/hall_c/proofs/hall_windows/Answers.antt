@@ -1,7 +1,6 @@
 -- `hall_windows` answers what windows answers, flat, and leaves the list as that leaves it.
 use mathlib.Core.Path.{ap, ◌∙◌}
 use Rattle.model.specs.Answers.{windows_case}
-use borrow.Author.Rules.{rules}
 use Rattle.hall_c.specs.Answers.{flat_windows}
 use Rattle.hall_c.proofs.hall_windows.Goals as goal
 

@@ -1,7 +1,6 @@
 -- `hall_write_file` answers what write file answers, flat, and leaves the output as that leaves it.
 use mathlib.Core.Path.{ap, ◌∙◌}
 use Rattle.model.specs.Answers.{write_case}
-use borrow.Author.Rules.{rules}
 use Rattle.hall_c.specs.Answers.{flat_file}
 use Rattle.hall_c.proofs.hall_write_file.Goals as goal
 

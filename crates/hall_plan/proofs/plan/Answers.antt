@@ -1,6 +1,5 @@
 -- `plan` answers as a plan does: each return is a rung of its ladder.
 use lib.Ieee.{of_bits}
-use borrow.Author.Rules.{rules}
 use Rattle.laws.specs.Ladder.{ladder}
 use Rattle.model.specs.Calls.{measure_number, plan_number, plan_answer}
 use Rattle.model.specs.Answers.{plan_answers}

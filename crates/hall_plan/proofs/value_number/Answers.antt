@@ -1,6 +1,5 @@
 -- `value_number` gives `value_number`: each return is a rung of its ladder.
 use lib.Ieee.{of_bits}
-use borrow.Author.Rules.{rules}
 use Rattle.laws.specs.Ladder.{ladder}
 use Rattle.model.specs.Calls.{value_number}
 use Rattle.hall_plan.proofs.value_number.Goals as goal

@@ -30,7 +30,7 @@ returns-then-list-steps_of c =
     let n = e in
     let m = n in
     let both = refused_25 _ _ _ _ m.check_store-no.ensures m.if-no-gt0.false m.measures_at-m.ensures n.cells-size.ensures e.if-size-source.false e.if-size-goal.false
-        f.find_path-found.ensures.answer f.find_path-found.ensures.steps t.steps_of.ensures (search rules) c.if-list-steps_of.true in
+    f.find_path-found.ensures.answer f.find_path-found.ensures.steps t.steps_of.ensures (search rules) c.if-list-steps_of.true in
     record { answer = both.0; steps = both.1 }
 
 pub returns : goal.returns
@@ -41,7 +41,7 @@ returns c =
     let n = e in
     let m = n in
     let both = routed_all _ _ _ _ m.check_store-no.ensures m.if-no-gt0.false m.measures_at-m.ensures n.cells-size.ensures e.if-size-source.false e.if-size-goal.false
-        f.find_path-found.ensures.answer f.find_path-found.ensures.steps t.steps_of.ensures (search rules) c.if-list-steps_of.false in
+    f.find_path-found.ensures.answer f.find_path-found.ensures.steps t.steps_of.ensures (search rules) c.if-list-steps_of.false in
     record { answer = both.0; steps = both.1 }
 
 pub measures_at-m-requires : goal.measures_at-m-requires

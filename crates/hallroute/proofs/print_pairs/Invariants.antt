@@ -1,9 +1,7 @@
 -- `print_pairs` ends: the bytes that are left fall, and the lists keep their lengths.
 use mathlib.Core.Path.{◌≡◌}
 use Prim.Native.Nat.{◌-◌}
-use native.Mathlib.Omega.{arith}
 use lib.ListN.{length}
-use borrow.Author.Rules.{rules}
 use Rattle.hallroute.proofs.print_pairs.Given as goal
 
 abbrev pub invariant-loop-at : goal.invariant-loop-at

@@ -1,7 +1,5 @@
 -- `make_calls` makes the calls of its list in turn: those that are left lead to where all lead from the start.
-use Prim.Native.Nat.{◌-◌}
-use lib.ListN.{length}
-use Rattle.reach.proofs.Calling.{Made, making}
+use Rattle.reach.proofs.Calling.{making}
 use borrow.Author.Rules.{rules}
 use Rattle.reach.proofs.make_calls.Goals as goal
 

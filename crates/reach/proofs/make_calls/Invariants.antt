@@ -1,8 +1,7 @@
 -- `make_calls` makes the calls of its list in turn: those that are left lead to where all lead from the start.
 use Prim.Native.Nat.{◌-◌}
 use lib.ListN.{length}
-use Rattle.reach.proofs.Calling.{Made, making}
-use borrow.Author.Rules.{rules}
+use Rattle.reach.proofs.Calling.{Made}
 use Rattle.reach.proofs.make_calls.Given as goal
 
 abbrev pub invariant-loop-at : goal.invariant-loop-at

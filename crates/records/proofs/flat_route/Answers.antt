@@ -10,6 +10,6 @@ use Rattle.records.proofs.flat_route.Goals as goal
 pub returns : goal.returns
 returns c =
     let both = flatly c.args.st.now c.args.source c.args.goal _ _ c.steps_room-bytes.ensures
-        (omega (arith, length-take (6 * c.steps_room-bytes.result) c.args.flat.now, c.steps_room-bytes.ensures, c.requires)) (route_case _ _ _ _ c.route.ensures.answer)
-        c.route.ensures.steps refl in
+    (omega (arith, length-take (6 * c.steps_room-bytes.result) c.args.flat.now, c.steps_room-bytes.ensures, c.requires)) (route_case _ _ _ _ c.route.ensures.answer)
+    c.route.ensures.steps refl in
     record { answer = both.0; steps = both.1 }

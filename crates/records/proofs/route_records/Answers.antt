@@ -16,5 +16,5 @@ returns c =
     record {
       answer = route_answers c.args.st.now c.args.source c.args.goal _ c.flat_route-answer.ensures.answer;
       steps = c.write_records.ensures ∙ ap (λ (k : ℕ). steps_in k flat ++ drop k list) c.steps_of.ensures
-      ∙ recorded c.args.st.now c.args.source c.args.goal list c.flat_route-answer.ensures.answer c.flat_route-answer.ensures.steps;
+          ∙ recorded c.args.st.now c.args.source c.args.goal list c.flat_route-answer.ensures.answer c.flat_route-answer.ensures.steps;
     }

@@ -6,7 +6,7 @@ use native.Mathlib.Omega.{arith}
 use lib.ListN.{set}
 use Rattle.model.specs.declared.RouteStep.{RouteStep}
 use Rattle.model.specs.FlatSteps.{step_in}
-use Rattle.records.specs.Filling.{filled, filled_none, filled_length, filled_next}
+use Rattle.records.specs.Filling.{filled, filled_none, filled_next}
 use Rattle.records.proofs.write_records.Goals as goal
 
 pub loop-i-init : goal.loop-i-init

@@ -1,8 +1,5 @@
 -- `reset_nearby` is the run over its places.
-use Prim.Native.Nat.{◌-◌}
-use Rattle.laws.specs.Fold.{Ran, counting}
-use Rattle.model.specs.Change.{reset_sector}
-use Rattle.model.specs.Nearby.{at_nearby}
+use Rattle.laws.specs.Fold.{counting}
 use borrow.Author.Rules.{rules}
 use Rattle.sector_cost.proofs.reset_nearby.Goals as goal
 

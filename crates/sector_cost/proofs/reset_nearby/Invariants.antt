@@ -1,9 +1,8 @@
 -- `reset_nearby` is the run over its places.
 use Prim.Native.Nat.{◌-◌}
-use Rattle.laws.specs.Fold.{Ran, counting}
+use Rattle.laws.specs.Fold.{Ran}
 use Rattle.model.specs.Change.{reset_sector}
 use Rattle.model.specs.Nearby.{at_nearby}
-use borrow.Author.Rules.{rules}
 use Rattle.sector_cost.proofs.reset_nearby.Given as goal
 
 abbrev pub invariant-loop-k : goal.invariant-loop-k

@@ -1,6 +1,5 @@
 -- `reset_sector` puts the sector of base in place of that of the scaled costs.
 use Rattle.model.specs.Change.{reset_sector}
-use borrow.Author.Rules.{rules}
 use Rattle.sector_cost.proofs.reset_sector.Goals as goal
 
 pub returns : goal.returns

@@ -1,5 +1,5 @@
 -- `scale_all_costfields` is the run over all sectors from a copy of base; at scale 1 that run leaves the copy.
-use mathlib.Core.Path.{◌≡◌, sym, ◌∙◌}
+use mathlib.Core.Path.{sym, ◌∙◌}
 use Rattle.model.specs.Scaling.{scale_floor}
 use Rattle.model.specs.ScaleOne.{floor_one}
 use Rattle.walks.specs.Showing.{showing_none}

@@ -1,6 +1,5 @@
 -- `scale_cell` walks from a cell where its base cost is blocked, and from no other.
 use Rattle.model.specs.Scaling.{scale_cell}
-use borrow.Author.Rules.{rules}
 use Rattle.sector_cost.proofs.scale_cell.Goals as goal
 
 pub returns-then-is_open : goal.returns-then-is_open

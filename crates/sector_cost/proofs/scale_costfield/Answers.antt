@@ -1,10 +1,6 @@
 -- `scale_costfield` is the run over the cells of a sector.
-use Prim.Native.Nat.{◌-◌}
-use native.Mathlib.Omega.{arith}
-use Rattle.laws.specs.Fold.{Ran, counting}
-use Rattle.model.specs.Scaling.{scale_cell, scale_sector}
-use Rattle.walks.specs.Board.{board_long}
-use Rattle.walks.specs.Walks.{Shows, shows_long}
+use Rattle.laws.specs.Fold.{counting}
+use Rattle.model.specs.Scaling.{scale_sector}
 use borrow.Author.Rules.{rules}
 use Rattle.sector_cost.proofs.scale_costfield.Goals as goal
 

@@ -1,11 +1,8 @@
 -- `scale_costfield` is the run over the cells of a sector.
 use Prim.Native.Nat.{◌-◌}
-use native.Mathlib.Omega.{arith}
-use Rattle.laws.specs.Fold.{Ran, counting}
-use Rattle.model.specs.Scaling.{scale_cell, scale_sector}
-use Rattle.walks.specs.Board.{board_long}
-use Rattle.walks.specs.Walks.{Shows, shows_long}
-use borrow.Author.Rules.{rules}
+use Rattle.laws.specs.Fold.{Ran}
+use Rattle.model.specs.Scaling.{scale_cell}
+use Rattle.walks.specs.Walks.{Shows}
 use Rattle.sector_cost.proofs.scale_costfield.Given as goal
 
 abbrev pub invariant-loop-i : goal.invariant-loop-i

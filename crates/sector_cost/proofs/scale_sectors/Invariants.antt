@@ -1,11 +1,9 @@
 -- `scale_sectors` is the run over its sectors.
 use Prim.Native.Nat.{◌-◌}
-use native.Mathlib.Omega.{arith}
 use mathlib.Core.Path.{◌≡◌}
-use Rattle.laws.specs.Fold.{Ran, counting}
+use Rattle.laws.specs.Fold.{Ran}
 use Rattle.model.specs.Scaling.{scale_sector}
-use Rattle.walks.specs.Board.{board_of, board_long}
-use borrow.Author.Rules.{rules}
+use Rattle.walks.specs.Board.{board_of}
 use Rattle.sector_cost.proofs.scale_sectors.Given as goal
 
 abbrev pub invariant-loop-s : goal.invariant-loop-s

@@ -1,6 +1,5 @@
 -- `build_in` scales, marks and writes.
 use Rattle.model.specs.Calls.{built}
-use borrow.Author.Rules.{rules}
 use Rattle.builder.proofs.build.build_in.Goals as goal
 
 pub returns : goal.returns

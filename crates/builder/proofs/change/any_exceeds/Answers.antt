@@ -1,9 +1,5 @@
 -- `any_exceeds` answers refusal 22: no place passed has a sector that exceeds.
-use Prim.Native.Nat.{◌-◌}
-use mathlib.Core.List.{[]}
-use Rattle.laws.specs.Search.{Clear, seeking}
-use Rattle.builder.specs.Around.{place_exceeds}
-use Rattle.store.specs.Layout.{hall_of}
+use Rattle.laws.specs.Search.{seeking}
 use Rattle.builder.proofs.Around.{places_exceed}
 use borrow.Author.Rules.{rules}
 use Rattle.builder.proofs.change.any_exceeds.Goals as goal

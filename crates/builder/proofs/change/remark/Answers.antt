@@ -1,9 +1,6 @@
 -- `remark` marks the sectors of the nine places one after the other.
-use Prim.Native.Nat.{◌-◌}
 use mathlib.Core.Path.{◌∙◌}
-use Rattle.laws.specs.Fold.{Ran, ran_end, counting}
-use Rattle.model.specs.Nearby.{at_nearby}
-use Rattle.builder.specs.Around.{sector_fresh}
+use Rattle.laws.specs.Fold.{ran_end, counting}
 use Rattle.builder.proofs.Around.{remarked_by}
 use borrow.Author.Rules.{rules}
 use Rattle.builder.proofs.change.remark.Goals as goal

@@ -1,7 +1,6 @@
 -- `remark_sector` marks the sides of a sector one after the other.
-use Prim.Native.Nat.{◌-◌}
-use Rattle.laws.specs.Fold.{Ran, counting}
-use Rattle.builder.specs.Around.{side_fresh, sector_fresh}
+use Rattle.laws.specs.Fold.{counting}
+use Rattle.builder.specs.Around.{sector_fresh}
 use borrow.Author.Rules.{rules}
 use Rattle.builder.proofs.change.remark_sector.Goals as goal
 

@@ -1,8 +1,7 @@
 -- `remark_sector` marks the sides of a sector one after the other.
 use Prim.Native.Nat.{◌-◌}
-use Rattle.laws.specs.Fold.{Ran, counting}
-use Rattle.builder.specs.Around.{side_fresh, sector_fresh}
-use borrow.Author.Rules.{rules}
+use Rattle.laws.specs.Fold.{Ran}
+use Rattle.builder.specs.Around.{side_fresh}
 use Rattle.builder.proofs.change.remark_sector.Given as goal
 
 abbrev pub invariant-loop-i : goal.invariant-loop-i

@@ -1,12 +1,10 @@
 -- `sector_exceeds` searches the four sides of a sector.
 use Prim.Native.Nat.{◌-◌}
 use mathlib.Core.List.{[]}
-use Rattle.laws.specs.Search.{Clear, seeking}
+use Rattle.laws.specs.Search.{Clear}
 use Rattle.model.specs.Cells.{side_at}
 use Rattle.model.specs.Change.{exceeds_at}
-use Rattle.builder.specs.Around.{sector_exceeds}
 use Rattle.store.specs.Layout.{hall_of}
-use borrow.Author.Rules.{rules}
 use Rattle.builder.proofs.change.sector_exceeds.Given as goal
 
 abbrev pub invariant-loop-i : goal.invariant-loop-i

@@ -1,11 +1,8 @@
 -- `mark_all` marks the sides one after the other.
 use Prim.Native.Nat.{◌-◌}
-use mathlib.Core.Path.{refl}
-use Rattle.laws.specs.Fold.{Ran, counting}
-use Rattle.laws.specs.Each.{each, each_end}
-use Rattle.model.specs.Windows.{marks_of}
+use Rattle.laws.specs.Fold.{Ran}
+use Rattle.laws.specs.Each.{each}
 use Rattle.builder.specs.Marks.{fresh}
-use borrow.Author.Rules.{rules}
 use Rattle.builder.proofs.marks.mark_all.Given as goal
 
 abbrev pub invariant-loop-k : goal.invariant-loop-k

@@ -1,6 +1,5 @@
 -- `mark_side` sets mark k to what the costs give.
 use Rattle.laws.specs.Each.{each}
-use borrow.Author.Rules.{rules}
 use Rattle.builder.proofs.marks.mark_side.Goals as goal
 
 pub returns : goal.returns

@@ -1,10 +1,8 @@
 -- `take_marks` takes the marks of a store over, one after the other.
-use Prim.Native.Nat.{◌-◌}
 use mathlib.Core.Path.{refl}
-use Rattle.laws.specs.Fold.{Ran, counting}
-use Rattle.laws.specs.Each.{each, each_end}
+use Rattle.laws.specs.Fold.{counting}
+use Rattle.laws.specs.Each.{each_end}
 use Rattle.model.specs.Store.{marks_in}
-use Rattle.builder.specs.Marks.{kept}
 use borrow.Author.Rules.{rules}
 use Rattle.builder.proofs.marks.take_marks.Goals as goal
 

@@ -1,6 +1,5 @@
 -- `decimal::digit_count` meets its contract: the digits counted and those of the rest are one more than all.
-use Rattle.cards.proofs.Digits.{Counted, counted}
-use borrow.Author.Rules.{rules}
+use Rattle.cards.proofs.Digits.{Counted}
 use Rattle.cards.proofs.decimal.digit_count.Given as goal
 
 abbrev pub invariant-loop-rest : goal.invariant-loop-rest

@@ -1,5 +1,5 @@
 -- `decimal::put_digits` meets its contract: what the rest would fill in is what was to be filled in.
-use Rattle.cards.proofs.Digits.{Filling, filling}
+use Rattle.cards.proofs.Digits.{filling}
 use borrow.Author.Rules.{rules}
 use Rattle.cards.proofs.decimal.put_digits.Goals as goal
 

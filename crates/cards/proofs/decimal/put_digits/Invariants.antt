@@ -1,6 +1,5 @@
 -- `decimal::put_digits` meets its contract: what the rest would fill in is what was to be filled in.
-use Rattle.cards.proofs.Digits.{Filling, filling}
-use borrow.Author.Rules.{rules}
+use Rattle.cards.proofs.Digits.{Filling}
 use Rattle.cards.proofs.decimal.put_digits.Given as goal
 
 abbrev pub invariant-loop-k : goal.invariant-loop-k

@@ -1,6 +1,5 @@
 -- `lines::put_steps` meets its contract: after k turns the first k steps are written.
-use Prim.Native.Nat.{◌-◌}
-use Rattle.cards.proofs.LineParts.{Stepped, stepping}
+use Rattle.cards.proofs.LineParts.{stepping}
 use borrow.Author.Rules.{rules}
 use Rattle.cards.proofs.lines.put_steps.Goals as goal
 

@@ -1,7 +1,6 @@
 -- `lines::put_steps` meets its contract: after k turns the first k steps are written.
 use Prim.Native.Nat.{◌-◌}
-use Rattle.cards.proofs.LineParts.{Stepped, stepping}
-use borrow.Author.Rules.{rules}
+use Rattle.cards.proofs.LineParts.{Stepped}
 use Rattle.cards.proofs.lines.put_steps.Given as goal
 
 abbrev pub invariant-loop-k : goal.invariant-loop-k

@@ -1,7 +1,6 @@
 -- `offer_end`: the end is passed by where it is none or has no more, and takes the offer otherwise.
 use native.Mathlib.Omega.{arith}
 use Rattle.choice.specs.Ends.{tried_none, tried_kept, tried_took}
-use borrow.Author.Rules.{rules}
 use Rattle.choice.proofs.ends.offer_end.Goals as goal
 
 pub returns-then-last-eq-APART : goal.returns-then-last-eq-APART

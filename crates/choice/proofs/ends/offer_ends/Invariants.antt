@@ -1,12 +1,10 @@
 -- `offer_ends` tries each end once. The loop's invariant: the goal's arcs before place k are taken.
-use native.Mathlib.Omega.{arith}
-use mathlib.Core.Path.{◌≡◌, refl, subst, ◌∙◌}
-use Prim.Native.Nat.{ℕ, ◌-◌, ◌≤◌}
+use mathlib.Core.Path.{◌≡◌}
+use Prim.Native.Nat.{◌-◌, ◌≤◌}
 use lib.ListN.{length}
 use Rattle.laws.specs.Graph.{Graph, Sound}
-use Rattle.laws.specs.Starts.{starts_more}
 use Rattle.model.specs.Portals.{sector_portals}
-use Rattle.choice.specs.Ends.{end_at, end_cost, EndsBegun}
+use Rattle.choice.specs.Ends.{EndsBegun}
 use Rattle.choice.proofs.ends.offer_ends.Given as goal
 
 abbrev pub invariant-loop-k : goal.invariant-loop-k

@@ -3,11 +3,9 @@ use native.Mathlib.Omega.{arith}
 use mathlib.Core.Path.{◌≡◌, ◌∙◌}
 use mathlib.Core.List.{[], ◌∷◌}
 use lib.ListN.{length}
-use borrow.Author.Rules.{rules}
 use Rattle.model.specs.LeastPath.{unlinked}
 use Rattle.laws.specs.Starts.{starts_extends, starts_none, starts_all, starts_over}
 use Rattle.model.specs.Portals.{sector_portals, portal_count}
-use Rattle.search.specs.Searching.{searched_in}
 use Rattle.graph.specs.EdgeTable.{table_graph}
 use Rattle.choice.specs.Ends.{end_at, end_cost, ends_graph, ends_nearest}
 use Rattle.choice.proofs.ends.search_ends.Goals as goal

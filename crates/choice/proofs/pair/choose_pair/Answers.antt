@@ -1,12 +1,9 @@
 -- `choose_pair` takes the first start, then the first end from it.
 use native.Mathlib.Omega.{arith}
-use mathlib.Core.Path.{◌≡◌, ◌∙◌}
+use mathlib.Core.Path.{◌≡◌}
 use Prim.Native.Nat.{ℕ, ◌<◌}
-use lib.ListN.{length, get_or, replicate, get_or-replicate}
-use borrow.Author.Rules.{rules}
-use Rattle.laws.specs.FirstLeast.{foremost_within}
-use Rattle.model.specs.Portals.{sector_portals, portal_count}
-use Rattle.search.specs.Searching.{searched_in}
+use lib.ListN.{get_or, replicate, get_or-replicate}
+use Rattle.model.specs.Portals.{sector_portals}
 use Rattle.choice.specs.FirstPair.{no_start, first_pair}
 use Rattle.choice.proofs.pair.choose_pair.Goals as goal
 

@@ -1,10 +1,6 @@
 -- `first_place` keeps the first of the least. The loop's invariant: best is it among the places before c, and least is its run.
-use native.Mathlib.Omega.{arith}
-use mathlib.Core.Path.{subst}
-use mathlib.Core.Logic.{⊎_elim}
-use Prim.Native.Nat.{ℕ, ◌-◌, ◌≤◌}
-use borrow.Author.Rules.{rules}
-use Rattle.laws.specs.FirstLeast.{Picked, picked_none, picked_take, picked_skip}
+use Prim.Native.Nat.{◌-◌, ◌≤◌}
+use Rattle.laws.specs.FirstLeast.{Picked}
 use Rattle.model.specs.LeastPath.{unlinked}
 use Rattle.model.specs.Portals.{sector_portals}
 use Rattle.choice.specs.FirstPair.{place_run}

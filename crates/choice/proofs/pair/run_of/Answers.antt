@@ -1,7 +1,6 @@
 -- `run_of` answers by the three tests of a pair.
 use native.Mathlib.Omega.{arith}
 use Rattle.choice.specs.Choosing.{no_leg, no_last, no_path, some_run}
-use borrow.Author.Rules.{rules}
 use Rattle.choice.proofs.pair.run_of.Goals as goal
 
 pub returns-then-leg-eq-APART : goal.returns-then-leg-eq-APART

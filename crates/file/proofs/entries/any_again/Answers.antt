@@ -1,6 +1,5 @@
 -- `any_again` answers refusal 28: no entry passed was met before, and the set has those passed.
-use Prim.Native.Nat.{◌-◌}
-use Rattle.file.specs.Entries.{Unrepeated, repeating}
+use Rattle.file.specs.Entries.{repeating}
 use borrow.Author.Rules.{rules}
 use Rattle.file.proofs.entries.any_again.Goals as goal
 

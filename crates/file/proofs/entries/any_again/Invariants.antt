@@ -1,7 +1,6 @@
 -- `any_again` answers refusal 28: no entry passed was met before, and the set has those passed.
 use Prim.Native.Nat.{◌-◌}
-use Rattle.file.specs.Entries.{Unrepeated, repeating}
-use borrow.Author.Rules.{rules}
+use Rattle.file.specs.Entries.{Unrepeated}
 use Rattle.file.proofs.entries.any_again.Given as goal
 
 abbrev pub invariant-loop-k : goal.invariant-loop-k

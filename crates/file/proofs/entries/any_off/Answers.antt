@@ -1,7 +1,5 @@
 -- `any_off` answers refusal 15: no entry passed was too large.
-use Prim.Native.Nat.{◌-◌}
-use Rattle.laws.specs.Search.{Clear, seeking}
-use Rattle.model.specs.Calls.{entry_off}
+use Rattle.laws.specs.Search.{seeking}
 use borrow.Author.Rules.{rules}
 use Rattle.file.proofs.entries.any_off.Goals as goal
 

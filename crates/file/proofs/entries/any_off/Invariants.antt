@@ -1,8 +1,7 @@
 -- `any_off` answers refusal 15: no entry passed was too large.
 use Prim.Native.Nat.{◌-◌}
-use Rattle.laws.specs.Search.{Clear, seeking}
+use Rattle.laws.specs.Search.{Clear}
 use Rattle.model.specs.Calls.{entry_off}
-use borrow.Author.Rules.{rules}
 use Rattle.file.proofs.entries.any_off.Given as goal
 
 abbrev pub invariant-loop-k : goal.invariant-loop-k

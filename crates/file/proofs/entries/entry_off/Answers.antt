@@ -1,6 +1,5 @@
 -- `entry_off` answers whether the floor number of an entry is too large.
 use Rattle.model.specs.Calls.{entry_off}
-use borrow.Author.Rules.{rules}
 use Rattle.file.proofs.entries.entry_off.Goals as goal
 
 pub returns : goal.returns

@@ -1,6 +1,4 @@
 -- `fill_from` fills a list with 1 and puts the entries of the file into it.
-use mathlib.Core.Path.{◌∙◌}
-use native.Mathlib.Omega.{arith}
 use Rattle.file.specs.Entries.{filled_from}
 use borrow.Author.Rules.{rules}
 use Rattle.file.proofs.entries.fill_from.Goals as goal

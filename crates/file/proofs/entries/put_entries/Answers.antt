@@ -1,8 +1,6 @@
 -- `put_entries` puts the entries of a file into a list: those passed are in.
-use Prim.Native.Nat.{◌-◌}
-use Rattle.laws.specs.Fold.{Ran, counting}
+use Rattle.laws.specs.Fold.{counting}
 use Rattle.model.specs.FileCosts.{entry_on}
-use Rattle.file.specs.Entries.{put_entry}
 use borrow.Author.Rules.{rules}
 use Rattle.file.proofs.entries.put_entries.Goals as goal
 

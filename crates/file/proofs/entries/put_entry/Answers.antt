@@ -1,6 +1,5 @@
 -- `put_entry` puts the cost of an entry where its floor number says.
 use Rattle.laws.specs.Puts.{put}
-use borrow.Author.Rules.{rules}
 use Rattle.file.proofs.entries.put_entry.Goals as goal
 
 pub returns : goal.returns

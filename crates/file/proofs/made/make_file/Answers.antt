@@ -1,8 +1,6 @@
 -- `make_file` makes the file of a floor: the entries of the cells passed are in.
-use Prim.Native.Nat.{◌-◌}
 use native.Mathlib.Omega.{arith}
-use lib.ListN.{length}
-use Rattle.file.specs.Making.{Made, made_small, making}
+use Rattle.file.specs.Making.{made_small, making}
 use borrow.Author.Rules.{rules}
 use Rattle.file.proofs.made.make_file.Goals as goal
 

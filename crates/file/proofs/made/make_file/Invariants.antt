@@ -1,9 +1,7 @@
 -- `make_file` makes the file of a floor: the entries of the cells passed are in.
 use Prim.Native.Nat.{◌-◌}
-use native.Mathlib.Omega.{arith}
 use lib.ListN.{length}
-use Rattle.file.specs.Making.{Made, made_small, making}
-use borrow.Author.Rules.{rules}
+use Rattle.file.specs.Making.{Made}
 use Rattle.file.proofs.made.make_file.Given as goal
 
 abbrev pub invariant-loop-n : goal.invariant-loop-n

@@ -1,9 +1,6 @@
 -- `named_count` counts the cells that have an entry: those passed are counted.
-use Prim.Native.Nat.{◌-◌}
 use native.Mathlib.Omega.{arith}
-use lib.ListN.{length}
-use Rattle.laws.specs.Search.{Counted, counted_none, counted_turn, counted_few}
-use Rattle.model.specs.Store.{is_named}
+use Rattle.laws.specs.Search.{counted_none, counted_turn, counted_few}
 use Rattle.file.specs.Making.{counted_named}
 use borrow.Author.Rules.{rules}
 use Rattle.file.proofs.made.named_count.Goals as goal

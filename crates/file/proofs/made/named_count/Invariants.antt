@@ -1,11 +1,8 @@
 -- `named_count` counts the cells that have an entry: those passed are counted.
 use Prim.Native.Nat.{◌-◌}
-use native.Mathlib.Omega.{arith}
 use lib.ListN.{length}
-use Rattle.laws.specs.Search.{Counted, counted_none, counted_turn, counted_few}
+use Rattle.laws.specs.Search.{Counted}
 use Rattle.model.specs.Store.{is_named}
-use Rattle.file.specs.Making.{counted_named}
-use borrow.Author.Rules.{rules}
 use Rattle.file.proofs.made.named_count.Given as goal
 
 abbrev pub invariant-loop-n : goal.invariant-loop-n

@@ -1,5 +1,5 @@
 -- `sum` is safe and ends: the number stays below the prime, and the bytes that are left fall.
-use Rattle.std.proofs.Common.{◌-◌, ◌<◌, ◌≤◌, length, arith, rules}
+use Rattle.std.proofs.Common.{◌-◌, ◌<◌, ◌≤◌, length}
 use Rattle.floors.proofs.halls.sum.Given as goal
 
 abbrev pub invariant-loop-i : goal.invariant-loop-i

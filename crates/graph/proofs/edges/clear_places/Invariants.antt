@@ -1,9 +1,7 @@
 -- `clear_places` puts 0 in each place of one number.
-use native.Mathlib.Omega.{arith}
-use mathlib.Core.Path.{refl}
 use Prim.Native.Nat.{◌-◌}
 use Rattle.model.specs.Portals.{sector_portals}
-use Rattle.graph.specs.EdgeTable.{Row, row_none, row_more, row_all}
+use Rattle.graph.specs.EdgeTable.{Row}
 use Rattle.graph.proofs.edges.clear_places.Given as goal
 
 abbrev pub invariant-loop-c : goal.invariant-loop-c

@@ -1,7 +1,6 @@
 -- `edge_at` answers by the place, and by the moves to its midpoint.
 use native.Mathlib.Omega.{arith}
 use Rattle.graph.specs.Weights.{edge_own, edge_far, edge_near}
-use borrow.Author.Rules.{rules}
 use Rattle.graph.proofs.edges.edge_at.Goals as goal
 
 pub returns-then-c-own : goal.returns-then-c-own

@@ -1,14 +1,8 @@
 -- `fill_edges` fills the table sector by sector. The loop's invariant: the weights of the sectors before s stand in it.
-use native.Mathlib.Omega.{arith}
-use mathlib.Core.Path.{◌≡◌, sym, ap, ◌∙◌}
-use Prim.Native.Nat.{ℕ, ◌-◌, ◌*◌, ◌≤◌}
-use borrow.Author.Rules.{rules}
-use Rattle.laws.specs.Table.{tabled_none, tabled_at}
-use Rattle.model.specs.Sectors.{sectors}
+use Prim.Native.Nat.{◌-◌, ◌*◌, ◌≤◌}
 use Rattle.model.specs.Store.{decode}
 use Rattle.model.specs.Portals.{sector_arcs}
-use Rattle.graph.specs.EdgeTable.{Filled, filled_all}
-use Rattle.graph.specs.Reading.{accepted_of, measures_are}
+use Rattle.graph.specs.EdgeTable.{Filled}
 use Rattle.graph.proofs.edges.fill_edges.Given as goal
 
 abbrev pub invariant-loop-s : goal.invariant-loop-s

@@ -1,12 +1,5 @@
 -- `fill_places` takes the edge at each place of one portal.
-use native.Mathlib.Omega.{arith}
-use Prim.Native.Nat.{◌-◌}
-use lib.ListN.{get_or}
-use Rattle.model.specs.Portals.{sector_portals, portal_place}
-use Rattle.moves.specs.Levels.{moves_in}
-use Rattle.graph.specs.EdgeTable.{Row, row_none, row_more, row_all}
-use Rattle.graph.specs.Weights.{edge_by}
-use borrow.Author.Rules.{rules}
+use Rattle.graph.specs.EdgeTable.{row_more, row_all}
 use Rattle.graph.proofs.edges.fill_places.Goals as goal
 
 pub loop-c-preserved : goal.loop-c-preserved

@@ -1,10 +1,6 @@
 -- `outer_edge` answers by the sector beyond and the facing portal.
-use native.Mathlib.Omega.{arith}
-use borrow.Author.Tests.{not-true, not-false}
 use mathlib.Core.Path.{refl}
 use mathlib.Core.Bool.{true, false}
-use borrow.Author.Rules.{rules}
-use Rattle.graph.specs.Reading.{accepted_of}
 use Rattle.graph.specs.Weights.{outer_is}
 use Rattle.graph.proofs.edges.outer_edge.Goals as goal
 

@@ -1,7 +1,6 @@
 -- `mid_of` answers by whether the number is a portal's.
 use mathlib.Core.Path.{sym, ◌∙◌}
 use Rattle.graph.specs.Near.{mid_some, mid_none}
-use borrow.Author.Rules.{rules}
 use Rattle.graph.proofs.near.mid_of.Goals as goal
 
 pub returns-then-is_portal : goal.returns-then-is_portal

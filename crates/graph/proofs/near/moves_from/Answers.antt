@@ -6,8 +6,7 @@ use native.Mathlib.Omega.{arith}
 use Rattle.model.specs.Moves.{moves}
 use Rattle.model.specs.Sectors.{place_of}
 use Rattle.moves.specs.Levels.{open_words}
-use Rattle.graph.specs.Reading.{accepted_of, room_of, sector_read}
-use borrow.Author.Rules.{rules}
+use Rattle.graph.specs.Reading.{sector_read}
 use Rattle.graph.proofs.near.moves_from.Goals as goal
 
 pub spread-requires : goal.spread-requires

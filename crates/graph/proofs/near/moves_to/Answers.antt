@@ -1,7 +1,6 @@
 -- `moves_to` reads the moves to a cell of the same sector.
 use mathlib.Core.Path.{◌∙◌}
 use Rattle.graph.specs.Near.{other_sector, same_sector}
-use borrow.Author.Rules.{rules}
 use Rattle.graph.proofs.near.moves_to.Goals as goal
 
 pub returns-then-x-y : goal.returns-then-x-y

@@ -1,7 +1,6 @@
 -- `near_by` reads the moves at a midpoint.
 use mathlib.Core.Path.{◌∙◌}
 use Rattle.graph.specs.Near.{near_none, near_some}
-use borrow.Author.Rules.{rules}
 use Rattle.graph.proofs.near.near_by.Goals as goal
 
 pub returns-then-mid-ge-NO_CROSSING : goal.returns-then-mid-ge-NO_CROSSING

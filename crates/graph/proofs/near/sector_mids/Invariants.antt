@@ -1,10 +1,9 @@
 -- `sector_mids` takes the midpoint of each place.
 use Prim.Native.Nat.{◌+◌, ◌-◌, ◌*◌}
-use borrow.Author.Rules.{rules}
-use Rattle.laws.specs.Table.{Tabled, tabling}
+use Rattle.laws.specs.Table.{Tabled}
 use Rattle.model.specs.Store.{decode}
 use Rattle.model.specs.Portals.{sector_portals}
-use Rattle.graph.specs.Near.{mid_of, sector_mids}
+use Rattle.graph.specs.Near.{mid_of}
 use Rattle.graph.proofs.near.sector_mids.Given as goal
 
 abbrev pub invariant-loop-c : goal.invariant-loop-c

@@ -1,8 +1,7 @@
 -- `sector_words` takes the words of the sector's costs.
 use mathlib.Core.Path.{ap, ◌∙◌}
 use Rattle.moves.specs.Levels.{open_words}
-use Rattle.graph.specs.Reading.{accepted_of, room_of, sector_read}
-use borrow.Author.Rules.{rules}
+use Rattle.graph.specs.Reading.{sector_read}
 use Rattle.graph.proofs.near.sector_words.Goals as goal
 
 pub returns : goal.returns

@@ -1,6 +1,5 @@
 -- `head_of` tells a portal's own place from the others.
 use mathlib.Core.Path.{sym, ◌∙◌}
-use borrow.Author.Rules.{rules}
 use Rattle.model.specs.PortalEdges.{head_own, head_other}
 use Rattle.graph.specs.EdgeTable.{bare}
 use Rattle.graph.proofs.portals.head_of.Goals as goal

@@ -2,7 +2,6 @@
 use native.Mathlib.Omega.{arith}
 use mathlib.Core.Path.{ap, ◌∙◌}
 use Rattle.model.specs.Windows.{window_count}
-use borrow.Author.Rules.{rules}
 use Rattle.graph.specs.Reading.{no_sector, window_test}
 use Rattle.graph.proofs.portals.is_portal.Goals as goal
 

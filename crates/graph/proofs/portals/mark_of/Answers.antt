@@ -1,8 +1,7 @@
 -- `mark_of` reads the mark of the portal's side.
 use native.Mathlib.Omega.{arith}
 use mathlib.Core.Path.{◌∙◌}
-use Rattle.graph.specs.Reading.{accepted_of, room_of, mark_read, mark_low}
-use borrow.Author.Rules.{rules}
+use Rattle.graph.specs.Reading.{mark_read, mark_low}
 use Rattle.graph.proofs.portals.mark_of.Goals as goal
 
 pub returns : goal.returns

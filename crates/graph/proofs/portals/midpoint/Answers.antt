@@ -2,7 +2,6 @@
 use native.Mathlib.Omega.{arith}
 use mathlib.Core.Path.{◌≡◌, ◌∙◌}
 use Prim.Native.Nat.{ℕ, ◌+◌, ◌/◌}
-use borrow.Author.Rules.{rules}
 use Rattle.model.specs.Windows.{border, first_place, last_place, crossing}
 use Rattle.model.specs.declared.Side.{Side}
 use Rattle.model.specs.Portals.{portal_mark, portal_window, midpoint}

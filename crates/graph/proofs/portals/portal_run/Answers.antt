@@ -1,5 +1,4 @@
 -- `portal_run` finds the window by the mark of its side.
-use borrow.Author.Rules.{rules}
 use Rattle.model.specs.Store.{decode}
 use Rattle.model.specs.PortalNumbers.{portal_is}
 use Rattle.graph.specs.Reading.{portal_sector_lem, places_of_lem}

@@ -1,6 +1,4 @@
 -- `window_of_portal` finds the window by the mark of its side.
-use mathlib.Core.Path.{◌∙◌}
-use borrow.Author.Rules.{rules}
 use Rattle.model.specs.PortalNumbers.{portal_is}
 use Rattle.model.specs.Store.{decode}
 use Rattle.graph.specs.Reading.{portal_sector_lem}

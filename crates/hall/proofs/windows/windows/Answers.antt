@@ -21,7 +21,7 @@ returns-then-list-windows_number c =
     let s = n in
     let m = s in
     let both = refused_27 _ _ _ m.check_store-no.ensures m.if-no-gt0.false m.measures_at-m.ensures s.sectors.ensures s.if-sectors-sector.false n.sector_marks-marks.ensures
-        n.windows_number.ensures c.if-list-windows_number.true in
+    n.windows_number.ensures c.if-list-windows_number.true in
     record { answer = both.0; listed = both.1 }
 
 pub returns : goal.returns
@@ -32,7 +32,7 @@ returns c =
     let s = n in
     let m = s in
     let both = listed_all _ _ _ m.check_store-no.ensures m.if-no-gt0.false m.measures_at-m.ensures s.sectors.ensures s.if-sectors-sector.false n.sector_marks-marks.ensures
-        n.windows_number.ensures e.if-list-windows_number.false c.byte.ensures l.sector_windows.ensures.0 l.sector_windows.ensures.1 in
+    n.windows_number.ensures e.if-list-windows_number.false c.byte.ensures l.sector_windows.ensures.0 l.sector_windows.ensures.1 in
     record { answer = both.0; listed = both.1 }
 
 pub measures_at-m-requires : goal.measures_at-m-requires

@@ -1,6 +1,5 @@
 -- `next_line` writes `cut`, or the line of the pair at its place.
 use Rattle.hallroute.proofs.Printing.{cut_line, pair_line_lem}
-use borrow.Author.Rules.{rules}
 use Rattle.hallroute.proofs.lines.next_line.Goals as goal
 
 pub returns-then-pairs-at-lt4 : goal.returns-then-pairs-at-lt4
@@ -15,5 +14,5 @@ returns c =
     let p = c in
     let goal = p in
     let both = pair_line_lem _ _ _ _ goal.if-pairs-at-lt4.false goal.u16_at.ensures.0 goal.u16_at-2.ensures.0 p.pair_line.ensures.size.0 p.pair_line.ensures.size.1
-        p.pair_line.ensures.written in
+    p.pair_line.ensures.written in
     record { size = both.0; written = both.1 }

@@ -1,6 +1,5 @@
 -- `refused_line` writes its words, the number and the line's end.
 use Rattle.hallroute.proofs.Printing.{refused_text}
-use borrow.Author.Rules.{rules}
 use Rattle.hallroute.proofs.lines.refused_line.Goals as goal
 
 pub returns : goal.returns

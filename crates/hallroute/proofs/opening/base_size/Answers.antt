@@ -1,5 +1,5 @@
 -- `base_size` gives a list by which the file has the number that it has by its own cells.
-use Rattle.hallroute.proofs.Reading.{base_head, base_all, base_large}
+use Rattle.hallroute.proofs.Reading.{base_head, base_large}
 use borrow.Author.Rules.{rules}
 use Rattle.hallroute.proofs.opening.base_size.Goals as goal
 

@@ -11,7 +11,7 @@ returns-in-Accepted c =
     let known = built in
     let read = known in
     let both = file_built _ _ _ (search rules) (search rules) (sym c.in-Accepted.is ∙ read_case _ _ read.read_file.ensures.answer) (search rules) read.read_file.ensures.filled built.build.ensures.answer
-        built.build.ensures.store in
+    built.build.ensures.store in
     record { number = both.0; store = both.1 }
 
 pub returns-in-Refused : goal.returns-in-Refused

@@ -1,10 +1,9 @@
 -- `open_word` packs the rows of its half.
-use Prim.Native.Nat.{ℕ, ◌+◌, ◌-◌, ◌*◌, ◌≤◌}
+use Prim.Native.Nat.{ℕ, ◌+◌, ◌*◌}
 use native.Mathlib.Omega.{arith}
-use mathlib.Core.Path.{◌≡◌, ap, ◌∙◌}
+use mathlib.Core.Path.{ap, ◌∙◌}
 use Rattle.moves.specs.Levels.{packed, open_row, open_word}
 use Rattle.moves.proofs.Words.{packed_none, packed_more, row_small}
-use borrow.Author.Rules.{rules}
 use Rattle.moves.proofs.open_cells.open_word.Goals as goal
 
 pub loop-y-init : goal.loop-y-init

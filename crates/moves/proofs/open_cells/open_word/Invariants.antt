@@ -1,10 +1,7 @@
 -- `open_word` packs the rows of its half.
-use Prim.Native.Nat.{ℕ, ◌+◌, ◌-◌, ◌*◌, ◌≤◌}
-use native.Mathlib.Omega.{arith}
-use mathlib.Core.Path.{◌≡◌, ap, ◌∙◌}
-use Rattle.moves.specs.Levels.{packed, open_row, open_word}
-use Rattle.moves.proofs.Words.{packed_none, packed_more, row_small}
-use borrow.Author.Rules.{rules}
+use Prim.Native.Nat.{◌+◌, ◌-◌, ◌*◌, ◌≤◌}
+use mathlib.Core.Path.{◌≡◌}
+use Rattle.moves.specs.Levels.{packed, open_row}
 use Rattle.moves.proofs.open_cells.open_word.Given as goal
 
 abbrev pub invariant-loop-y : goal.invariant-loop-y

@@ -1,8 +1,7 @@
 -- `open_words` takes each half.
 use Prim.Native.Nat.{◌-◌}
-use borrow.Author.Rules.{rules}
-use Rattle.laws.specs.Table.{Tabled, tabling}
-use Rattle.moves.specs.Levels.{open_word, open_words}
+use Rattle.laws.specs.Table.{Tabled}
+use Rattle.moves.specs.Levels.{open_word}
 use Rattle.moves.proofs.open_cells.open_words.Given as goal
 
 abbrev pub invariant-loop-h : goal.invariant-loop-h

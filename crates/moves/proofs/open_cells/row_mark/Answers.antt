@@ -1,9 +1,7 @@
 -- `row_mark` holds the cells of the row from column x on.
-use Prim.Native.Nat.{◌+◌, ◌*◌}
 use borrow.Author.Rules.{rules}
-use Rattle.model.specs.Costs.{open_at}
 use Rattle.moves.specs.Levels.{open_row}
-use Rattle.fields.specs.Bits.{Marked, marking}
+use Rattle.fields.specs.Bits.{marking}
 use Rattle.moves.proofs.open_cells.row_mark.Goals as goal
 
 pub loop-x-init : goal.loop-x-init

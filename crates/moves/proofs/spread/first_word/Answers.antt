@@ -5,7 +5,6 @@ use mathlib.Core.Path.{refl}
 use lib.Pow.{pow-lt}
 use borrow.Author.Tests.{eq-eqb, ne_eqb}
 use Rattle.moves.specs.Levels.{spot, first_word}
-use borrow.Author.Rules.{rules}
 use Rattle.moves.proofs.spread.first_word.Goals as goal
 
 pub returns-then-h-from : goal.returns-then-h-from

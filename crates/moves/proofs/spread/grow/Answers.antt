@@ -1,8 +1,6 @@
 -- `grow` stores the two halves of the next level.
 use native.Mathlib.Omega.{arith}
-use lib.ListN.{length-set}
 use Rattle.moves.proofs.Words.{grown_is}
-use borrow.Author.Rules.{rules}
 use Rattle.moves.proofs.spread.grow.Goals as goal
 
 pub returns : goal.returns

@@ -1,10 +1,8 @@
 -- `lacking` counts the levels without the cell.
-use Prim.Native.Nat.{ℕ, ◌-◌, ◌≤◌}
 use native.Mathlib.Numerals.{add-one}
 use native.Mathlib.Omega.{arith}
-use mathlib.Core.Path.{◌≡◌, refl, ap, ◌∙◌}
+use mathlib.Core.Path.{refl}
 use Rattle.moves.specs.Levels.{missing}
-use borrow.Author.Rules.{rules}
 use Rattle.moves.proofs.spread.lacking.Goals as goal
 
 pub loop-d-init : goal.loop-d-init

@@ -1,10 +1,7 @@
 -- `lacking` counts the levels without the cell.
-use Prim.Native.Nat.{ℕ, ◌-◌, ◌≤◌}
-use native.Mathlib.Numerals.{add-one}
-use native.Mathlib.Omega.{arith}
-use mathlib.Core.Path.{◌≡◌, refl, ap, ◌∙◌}
+use Prim.Native.Nat.{◌-◌, ◌≤◌}
+use mathlib.Core.Path.{◌≡◌}
 use Rattle.moves.specs.Levels.{missing}
-use borrow.Author.Rules.{rules}
 use Rattle.moves.proofs.spread.lacking.Given as goal
 
 abbrev pub invariant-loop-d : goal.invariant-loop-d

@@ -1,6 +1,5 @@
 -- `moves_at` answers by how many levels lack the cell.
 use Rattle.moves.proofs.Levels.{told_some, told_none}
-use borrow.Author.Rules.{rules}
 use Rattle.moves.proofs.spread.moves_at.Goals as goal
 
 pub returns-then-lack-n : goal.returns-then-lack-n

@@ -1,8 +1,5 @@
 -- `better` answers by the two ranks, where there is a best yet.
 use native.Mathlib.Omega.{arith}
-use mathlib.Core.Logic.{⊎_elim}
-use borrow.Author.Rules.{rules}
-use Rattle.graph.specs.Reading.{accepted_of}
 use Rattle.path.specs.Following.{better_none, better_some}
 use Rattle.path.proofs.least.better.Goals as goal
 

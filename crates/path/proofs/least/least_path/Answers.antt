@@ -1,10 +1,10 @@
 -- `least_path` writes the least path. The loop's invariant is `Walked`.
 use native.Mathlib.Omega.{arith}
-use Prim.Native.Nat.{◌-◌, ◌≤◌, ◌<◌}
-use lib.ListN.{length, length-set}
+use Prim.Native.Nat.{◌≤◌, ◌<◌}
+use lib.ListN.{length}
 use Rattle.model.specs.Sectors.{sectors}
 use Rattle.model.specs.Portals.{portal_count}
-use Rattle.path.specs.Following.{Walked, searched_of, walk_begins, walk_at, walk_room, walk_long, walk_on, walk_ends}
+use Rattle.path.specs.Following.{searched_of, walk_begins, walk_at, walk_room, walk_on, walk_ends}
 use Rattle.path.proofs.least.least_path.Goals as goal
 use Rattle.path.proofs.least.least_path.Goals.{At-loop-u}
 

@@ -1,10 +1,7 @@
 -- `least_path` writes the least path. The loop's invariant is `Walked`.
-use native.Mathlib.Omega.{arith}
-use Prim.Native.Nat.{◌-◌, ◌≤◌, ◌<◌}
-use lib.ListN.{length, length-set}
-use Rattle.model.specs.Sectors.{sectors}
+use Prim.Native.Nat.{◌-◌}
 use Rattle.model.specs.Portals.{portal_count}
-use Rattle.path.specs.Following.{Walked, searched_of, walk_begins, walk_at, walk_room, walk_long, walk_on, walk_ends}
+use Rattle.path.specs.Following.{Walked}
 use Rattle.path.proofs.least.least_path.Given as goal
 
 abbrev pub invariant-loop-u : goal.invariant-loop-u

@@ -1,16 +1,12 @@
 -- `next_portal` goes over a portal's arcs. The loop's invariant: the best of the arcs before a.
-use native.Mathlib.Omega.{arith}
-use mathlib.Core.Path.{◌≡◌, ap, ◌∙◌}
-use mathlib.Core.Logic.{inl}
-use Prim.Native.Nat.{ℕ, ◌+◌, ◌-◌, ◌*◌, ◌≤◌}
-use borrow.Author.Rules.{rules}
+use mathlib.Core.Path.{◌≡◌}
+use Prim.Native.Nat.{◌+◌, ◌-◌, ◌*◌, ◌≤◌}
 use Rattle.laws.specs.FirstPath.{next}
-use Rattle.laws.specs.Tracing.{next_suc}
 use Rattle.model.specs.LeastPath.{node_rank}
 use Rattle.model.specs.Store.{decode}
 use Rattle.model.specs.Portals.{sector_portals}
 use Rattle.graph.specs.EdgeTable.{table_graph}
-use Rattle.path.specs.Following.{Best, searched_of, next_begins, next_ends}
+use Rattle.path.specs.Following.{Best}
 use Rattle.path.proofs.least.next_portal.Given as goal
 
 abbrev pub invariant-loop-a : goal.invariant-loop-a

@@ -2,7 +2,6 @@
 use native.Mathlib.Omega.{arith}
 use mathlib.Core.Path.{ap, ◌∙◌}
 use Prim.Native.Nat.{ℕ, ◌<◌}
-use borrow.Author.Rules.{rules}
 use Rattle.model.specs.Windows.{border_cell}
 use Rattle.model.specs.Sides.{side_low}
 use Rattle.model.specs.LeastPath.{cell_rank}

@@ -1,5 +1,4 @@
 -- `step_at` puts a portal's sector, midpoint and window into one step.
-use borrow.Author.Rules.{rules}
 use native.Mathlib.Omega.{arith}
 use mathlib.Core.Path.{◌≡◌, ◌∙◌}
 use Prim.Native.Nat.{ℕ}

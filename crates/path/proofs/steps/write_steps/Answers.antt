@@ -15,7 +15,7 @@ use Rattle.model.specs.Portals.{is_portal, portal_sector}
 use Rattle.model.specs.Route.{step_at}
 use Rattle.model.specs.Store.{decode}
 use Rattle.graph.specs.Reading.{measures_are, accepted_of, portal_sector_lem}
-use Rattle.path.specs.Stepping.{Stepped, stepped_none, stepped_turn, stepped_end}
+use Rattle.path.specs.Stepping.{stepped_none, stepped_turn, stepped_end}
 use Rattle.path.proofs.steps.write_steps.Goals as goal
 use Rattle.path.proofs.steps.write_steps.Goals.{At-loop-i}
 

@@ -1,7 +1,6 @@
 -- `marks::cells_mark` meets its contract: the mark holds the places from i on.
 use borrow.Author.Rules.{rules}
-use Rattle.fields.specs.Bits.{Marked, marking}
-use Rattle.portal.specs.Marks.{open_between}
+use Rattle.fields.specs.Bits.{marking}
 use Rattle.portal.proofs.marks.cells_mark.Goals as goal
 
 pub loop-i-init : goal.loop-i-init

@@ -1,6 +1,5 @@
 -- `marks::cells_mark` meets its contract: the mark holds the places from i on.
-use borrow.Author.Rules.{rules}
-use Rattle.fields.specs.Bits.{Marked, marking}
+use Rattle.fields.specs.Bits.{Marked}
 use Rattle.portal.specs.Marks.{open_between}
 use Rattle.portal.proofs.marks.cells_mark.Given as goal
 

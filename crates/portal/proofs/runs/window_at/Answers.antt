@@ -1,7 +1,6 @@
 -- `runs::window_at` meets its contract: after k turns the first k windows are passed.
-use Prim.Native.Nat.{◌-◌}
 use borrow.Author.Rules.{rules}
-use Rattle.portal.proofs.AllMarks.{Left, passing}
+use Rattle.portal.proofs.AllMarks.{passing}
 use Rattle.portal.proofs.runs.window_at.Goals as goal
 
 pub loop-k-init : goal.loop-k-init

@@ -1,7 +1,5 @@
 -- `windows::put_window` meets its contract: three bytes at the front, and the others as they were.
 use borrow.Author.Rules.{rules}
-use native.Mathlib.Omega.{arith}
-use lib.ListN.{length-set}
 use Rattle.model.specs.Calls.{flat_windows}
 use Rattle.portal.proofs.Entries.{set_three}
 use Rattle.portal.proofs.windows.put_window.Goals as goal

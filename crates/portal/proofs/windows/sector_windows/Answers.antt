@@ -1,7 +1,6 @@
 -- `windows::sector_windows` meets its contract: after k turns the list begins with the windows of the first k sides.
-use Prim.Native.Nat.{◌-◌}
 use borrow.Author.Rules.{rules}
-use Rattle.portal.proofs.Entries.{SectorFilled, filling}
+use Rattle.portal.proofs.Entries.{filling}
 use Rattle.portal.proofs.windows.sector_windows.Goals as goal
 
 pub loop-k-init : goal.loop-k-init

@@ -1,6 +1,5 @@
 -- `windows::side_windows` meets its contract: after j turns the list begins with the first j windows of the side.
-use Prim.Native.Nat.{◌-◌}
-use Rattle.portal.proofs.Entries.{SideFilled, siding}
+use Rattle.portal.proofs.Entries.{siding}
 use borrow.Author.Rules.{rules}
 use Rattle.portal.proofs.windows.side_windows.Goals as goal
 

@@ -1,7 +1,6 @@
 -- `windows::side_windows` meets its contract: after j turns the list begins with the first j windows of the side.
 use Prim.Native.Nat.{◌-◌}
-use Rattle.portal.proofs.Entries.{SideFilled, siding}
-use borrow.Author.Rules.{rules}
+use Rattle.portal.proofs.Entries.{SideFilled}
 use Rattle.portal.proofs.windows.side_windows.Given as goal
 
 abbrev pub invariant-loop-j : goal.invariant-loop-j

@@ -1,6 +1,6 @@
 -- `windows::window_of` meets its contract: first and last cell by the places of the window.
 use borrow.Author.Rules.{rules}
-use Rattle.portal.proofs.Entries.{inside, side_small, window_is}
+use Rattle.portal.proofs.Entries.{inside, window_is}
 use Rattle.portal.proofs.windows.window_of.Goals as goal
 
 pub border_index-requires : goal.border_index-requires

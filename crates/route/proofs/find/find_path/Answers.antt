@@ -3,9 +3,8 @@ use native.Mathlib.Omega.{arith}
 use mathlib.Core.Path.{sym, ap, ◌∙◌}
 use Rattle.model.specs.declared.Measures.{Measures}
 use Rattle.model.specs.Route.{Found}
-use Rattle.graph.specs.Reading.{accepted_of, measures_are}
+use Rattle.graph.specs.Reading.{measures_are}
 use Rattle.route.specs.Finding.{found_answer, found_into, last_route, apart_found, joined_found}
-use borrow.Author.Rules.{rules}
 use Rattle.route.proofs.find.find_path.Goals as goal
 
 pub returns-then-moves : goal.returns-then-moves

@@ -3,7 +3,6 @@ use native.Mathlib.Omega.{arith}
 use mathlib.Core.Path.{refl}
 use Rattle.model.specs.Steps.{flat_steps}
 use Rattle.route.specs.Finding.{no_room, written_steps}
-use borrow.Author.Rules.{rules}
 use Rattle.route.proofs.find.one_step.Goals as goal
 
 pub returns-then-list-lt1 : goal.returns-then-list-lt1

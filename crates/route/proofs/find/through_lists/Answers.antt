@@ -17,7 +17,6 @@ use Rattle.path.specs.Following.{Linked, graph_is, searched_of, searched_both_wa
 use Rattle.graph.specs.Near.{portal_moves}
 use Rattle.choice.specs.Choosing.{sector_pairs, pair_run, run_at, Chosen, chosen_none, chosen_some}
 use Rattle.route.specs.Finding.{found_answer, found_into, pair_found, pair_paired, pair_route, none_found}
-use borrow.Author.Rules.{rules}
 use Rattle.route.proofs.find.through_lists.Goals as goal
 use Rattle.route.proofs.find.through_lists.Goals.{After-choose_pair-k, After-fill_edges}
 
@@ -60,13 +59,16 @@ found_is c l =
 
 pub choose_pair-k-requires : goal.choose_pair-k-requires
 choose_pair-k-requires c =
-    let s = c in record { searched = (
+    let s = c in record {
+      searched = (
         searched_of (linked (goal.at.choose_pair-k-requires c).After-fill_edges),
         omega (arith, s.requires.1),
         omega (arith, s.requires.2),
         c.portal_moves.auto.near,
         c.portal_moves-2.auto.near,
-      ); both_ways = searched_both_ways (linked (goal.at.choose_pair-k-requires c).After-fill_edges) }
+      );
+      both_ways = searched_both_ways (linked (goal.at.choose_pair-k-requires c).After-fill_edges);
+    }
 
 pub returns-then-k-ge-PAIRS : goal.returns-then-k-ge-PAIRS
 returns-then-k-ge-PAIRS c =

@@ -1,20 +1,18 @@
 -- `through_pair` searches to the end portal, follows the least path and writes its steps.
 use native.Mathlib.Omega.{arith}
-use Prim.Native.Nat.{ℕ, ◌<◌, ◌≤◌}
+use Prim.Native.Nat.{◌<◌, ◌≤◌}
 use mathlib.Core.Path.{◌≡◌, ap, ◌∙◌}
-use mathlib.Core.List.{List}
-use lib.ListN.{length, get_or}
+use lib.ListN.{length}
 use Rattle.laws.specs.Graph.{Graph}
 use Rattle.model.specs.Sectors.{sectors}
 use Rattle.model.specs.Portals.{hall_portals, portal_count, portal_graph}
-use Rattle.model.specs.LeastPath.{unlinked, keys_to}
+use Rattle.model.specs.LeastPath.{keys_to}
 use Rattle.model.specs.PortalCrossings.{Fits}
 use Rattle.model.specs.Store.{decode}
 use Rattle.model.specs.PortalNumbers.{portal_is}
 use Rattle.graph.specs.Reading.{accepted_of, fits_of, measures_are}
 use Rattle.path.specs.Following.{Linked, graph_is, searched_of, searched_both_ways}
 use Rattle.route.specs.Finding.{taken_few, taken_path, pair_no_room, pair_written}
-use borrow.Author.Rules.{rules}
 use Rattle.route.proofs.find.through_pair.Goals as goal
 use Rattle.route.proofs.find.through_pair.Goals.{After-keys_to, After-least_path-n, Start}
 
@@ -84,5 +82,5 @@ returns c =
     let l = counted in
     let s = l in
     let both = pair_written _ (fits (goal.at.returns c).Start) s.requires.1 _ _ _ (keys_are (goal.at.returns c).After-keys_to) l.least_path-n.ensures.count l.least_path-n.ensures.portals _ _ _ _ counted.step_count-steps.ensures
-        room.if-list-steps.false c.write_steps.ensures in
+    room.if-list-steps.false c.write_steps.ensures in
     record { answer = both.0; steps = both.1 }

@@ -1,10 +1,8 @@
 -- `collect` lists the numbers that wait. The loop's invariant: those before u that wait are in the queue.
-use native.Mathlib.Omega.{arith}
-use mathlib.Core.Path.{◌≡◌, refl, subst, ◌∙◌}
-use mathlib.Core.Logic.{⊎_elim}
-use Prim.Native.Nat.{ℕ, ◌+◌, ◌-◌, ◌≤◌, ◌<◌}
-use lib.ListN.{length, length-set}
-use Rattle.laws.specs.Turns.{Lined, lined_none, lined_skip, lined_take}
+use mathlib.Core.Path.{◌≡◌}
+use Prim.Native.Nat.{◌-◌, ◌≤◌}
+use lib.ListN.{length}
+use Rattle.laws.specs.Turns.{Lined}
 use Rattle.search.proofs.keys.collect.Given as goal
 
 abbrev pub invariant-loop-u : goal.invariant-loop-u

@@ -1,16 +1,13 @@
 -- `drain` serves the numbers of the queue. The loop's invariant: all is as it was, or the work has fallen; the first number does wait.
-use native.Mathlib.Omega.{arith}
-use native.Mathlib.Nat.{lt_of_le_of_lt}
-use mathlib.Core.Path.{◌≡◌, refl, ◌∙◌}
-use mathlib.Core.Logic.{◌⊎◌, inl, inr, ⊎_elim}
+use mathlib.Core.Path.{◌≡◌}
+use mathlib.Core.Logic.{◌⊎◌}
 use mathlib.Core.List.{List}
-use Prim.Native.Nat.{ℕ, ◌+◌, ◌-◌, ◌≤◌, ◌<◌}
-use lib.ListN.{length, get_or}
+use Prim.Native.Nat.{ℕ, ◌-◌, ◌≤◌, ◌<◌}
+use lib.ListN.{length}
 use Rattle.laws.specs.Graph.{Graph}
 use Rattle.laws.specs.Waiting.{work}
 use Rattle.graph.specs.EdgeTable.{table_graph}
 use Rattle.laws.specs.Extending.{Keeps}
-use Rattle.laws.specs.Turns.{Turned, Lined}
 use Rattle.search.proofs.keys.drain.Given as goal
 
 -- the queue's numbers before h have had their turns

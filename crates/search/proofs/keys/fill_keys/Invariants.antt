@@ -1,10 +1,7 @@
 -- `fill_keys` puts one number in each place. The loop's invariant: it stands in the places before i.
-use native.Mathlib.Omega.{arith}
-use mathlib.Core.Path.{refl}
 use Prim.Native.Nat.{◌-◌}
 use lib.ListN.{length}
-use borrow.Author.Rules.{rules}
-use Rattle.laws.specs.Table.{Tabled, tabled_none, tabled_more, tabled_fill}
+use Rattle.laws.specs.Table.{Tabled}
 use Rattle.model.specs.LeastPath.{unlinked}
 use Rattle.search.proofs.keys.fill_keys.Given as goal
 

@@ -1,9 +1,7 @@
 -- `fill_wait` puts one number in each place. The loop's invariant: it stands in the places before i.
-use native.Mathlib.Omega.{arith}
-use mathlib.Core.Path.{refl}
 use Prim.Native.Nat.{◌-◌}
 use lib.ListN.{length}
-use Rattle.laws.specs.Table.{Tabled, tabled_none, tabled_more, tabled_fill}
+use Rattle.laws.specs.Table.{Tabled}
 use Rattle.search.proofs.keys.fill_wait.Given as goal
 
 abbrev pub invariant-loop-i : goal.invariant-loop-i

@@ -1,11 +1,7 @@
 -- `offers_inside` counts the places that offer something. The loop's invariant: where none of those before c was counted, none offers anything.
-use native.Mathlib.Omega.{arith}
-use mathlib.Core.Path.{◌≡◌, subst}
-use Prim.Native.Nat.{ℕ, ◌+◌, ◌-◌, ◌≤◌, ◌<◌}
-use lib.ListN.{get_or}
-use borrow.Author.Count.{below_more}
-use borrow.Author.Tests.{ltb-false}
-use Rattle.model.specs.Portals.{sector_portals, portal_sector, place_portal, arc_at}
+use mathlib.Core.Path.{◌≡◌}
+use Prim.Native.Nat.{◌-◌, ◌≤◌}
+use Rattle.model.specs.Portals.{sector_portals}
 use Rattle.search.specs.Turns.{Offerless}
 use Rattle.search.proofs.keys.offers_inside.Given as goal
 

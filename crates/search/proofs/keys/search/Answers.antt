@@ -1,11 +1,8 @@
 -- `search` ends in the least keys: at the outset the end portal waits, and where nobody does the list is certified.
 use native.Mathlib.Omega.{arith}
-use Prim.Native.Nat.{◌<◌}
-use lib.ListN.{length}
-use borrow.Author.Rules.{rules}
 use Rattle.laws.specs.Waiting.{waiting_over}
 use Rattle.laws.specs.Extending.{keeps_itself}
-use Rattle.laws.specs.Turns.{lined_alone, begins}
+use Rattle.laws.specs.Turns.{begins}
 use Rattle.search.specs.Keys.{keys_found}
 use Rattle.search.proofs.keys.search.Goals as goal
 

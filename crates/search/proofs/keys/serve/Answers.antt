@@ -2,14 +2,11 @@
 use native.Mathlib.Omega.{arith}
 use native.Mathlib.Nat.{lt_of_le_of_lt}
 use Prim.Native.Nat.{◌<◌}
-use mathlib.Core.Path.{◌∙◌}
-use borrow.Author.Rules.{rules}
-use lib.ListN.{length-set}
 use Rattle.laws.specs.Waiting.{work_served}
 use Rattle.laws.specs.Extending.{turn_begins}
 use Rattle.model.specs.Portals.{portal_count}
 use Rattle.search.specs.Turns.{arcs_of}
-use Rattle.laws.specs.Turns.{turned_none, turned_less}
+use Rattle.laws.specs.Turns.{turned_less}
 use Rattle.search.proofs.keys.serve.Goals as goal
 use Rattle.search.proofs.keys.serve.Goals.{Else-wait-u-eq0}
 
@@ -24,7 +21,7 @@ returns c =
     record {
       room = took.room;
       kept = λ g o ext s top w. took.served.done g o ext s top (turn_begins ext c.requires.0.graph.sound o here (arcs_of c.args.m c.args.table.now u)
-      c.args.keys.now c.args.wait.now c.requires.0.graph.room w);
+          c.args.keys.now c.args.wait.now c.requires.0.graph.room w);
       turn = turned_less (lt_of_le_of_lt took.served.light (work_served c.args.keys.now c.args.wait.now u (omega (arith, c.requires.0.graph.room, here))
-      (omega (arith, c.if-wait-u-eq0.false))));
+          (omega (arith, c.if-wait-u-eq0.false))));
     }

@@ -1,9 +1,7 @@
 -- `settle` ends where the queue of those that wait is empty. The loop's invariant: what waited is kept, and the queue is that of those that wait.
-use native.Mathlib.Omega.{arith}
-use mathlib.Core.Path.{◌≡◌, refl, ◌∙◌}
+use mathlib.Core.Path.{◌≡◌}
 use lib.ListN.{length}
 use Rattle.laws.specs.Waiting.{work}
-use Rattle.model.specs.Portals.{portal_count}
 use Rattle.graph.specs.EdgeTable.{table_graph}
 use Rattle.laws.specs.Extending.{Keeps}
 use Rattle.laws.specs.Turns.{Lined}

@@ -1,13 +1,12 @@
 -- `take_arcs` takes the arcs of one number. The loop's invariant: those before a are taken, and the work has not risen.
 use native.Mathlib.Omega.{arith}
-use mathlib.Core.Path.{◌≡◌, refl, ◌∙◌}
+use mathlib.Core.Path.{◌≡◌, ◌∙◌}
 use native.Mathlib.Nat.{le_trans}
-use Prim.Native.Nat.{◌+◌, ◌-◌, ◌*◌, ◌≤◌, ◌<◌}
+use Prim.Native.Nat.{◌+◌, ◌*◌, ◌≤◌, ◌<◌}
 use lib.ListN.{length}
-use Rattle.laws.specs.Waiting.{work, work_arc}
+use Rattle.laws.specs.Waiting.{work_arc}
 use Rattle.model.specs.Portals.{sector_portals, portal_count, arc_count}
-use Rattle.graph.specs.EdgeTable.{table_graph}
-use Rattle.laws.specs.Extending.{Serves, turn_arc, turn_ends}
+use Rattle.laws.specs.Extending.{turn_arc, turn_ends}
 use Rattle.search.specs.Turns.{arcs_of}
 use Rattle.search.proofs.keys.take_arcs.Goals as goal
 

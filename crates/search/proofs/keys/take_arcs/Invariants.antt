@@ -1,14 +1,11 @@
 -- `take_arcs` takes the arcs of one number. The loop's invariant: those before a are taken, and the work has not risen.
-use native.Mathlib.Omega.{arith}
-use mathlib.Core.Path.{◌≡◌, refl, ◌∙◌}
-use native.Mathlib.Nat.{le_trans}
-use Prim.Native.Nat.{◌+◌, ◌-◌, ◌*◌, ◌≤◌, ◌<◌}
+use mathlib.Core.Path.{◌≡◌}
+use Prim.Native.Nat.{◌+◌, ◌-◌, ◌*◌, ◌≤◌}
 use lib.ListN.{length}
-use Rattle.laws.specs.Waiting.{work, work_arc}
-use Rattle.model.specs.Portals.{sector_portals, portal_count, arc_count}
+use Rattle.laws.specs.Waiting.{work}
+use Rattle.model.specs.Portals.{sector_portals}
 use Rattle.graph.specs.EdgeTable.{table_graph}
-use Rattle.laws.specs.Extending.{Serves, turn_arc, turn_ends}
-use Rattle.search.specs.Turns.{arcs_of}
+use Rattle.laws.specs.Extending.{Serves}
 use Rattle.search.proofs.keys.take_arcs.Given as goal
 
 abbrev pub invariant-loop-a : goal.invariant-loop-a

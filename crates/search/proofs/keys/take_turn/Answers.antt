@@ -1,5 +1,4 @@
 -- `take_turn` takes all arcs of a number, or the one to the facing portal where no other offers anything.
-use borrow.Author.Rules.{rules}
 use Rattle.search.specs.Turns.{served_own}
 use Rattle.search.proofs.keys.take_turn.Goals as goal
 

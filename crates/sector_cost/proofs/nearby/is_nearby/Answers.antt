@@ -1,9 +1,6 @@
 -- `is_nearby` searches the nine places.
-use Prim.Native.Nat.{◌-◌}
-use mathlib.Core.Bool.{◌&&◌}
-use lib.Dec.{eqb}
-use Rattle.laws.specs.Search.{Clear, seeking}
-use Rattle.model.specs.Change.{nearby, is_there, is_nearby}
+use Rattle.laws.specs.Search.{seeking}
+use Rattle.model.specs.Change.{is_nearby}
 use borrow.Author.Rules.{rules}
 use Rattle.sector_cost.proofs.nearby.is_nearby.Goals as goal
 

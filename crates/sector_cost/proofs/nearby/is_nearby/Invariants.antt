@@ -2,9 +2,8 @@
 use Prim.Native.Nat.{◌-◌}
 use mathlib.Core.Bool.{◌&&◌}
 use lib.Dec.{eqb}
-use Rattle.laws.specs.Search.{Clear, seeking}
-use Rattle.model.specs.Change.{nearby, is_there, is_nearby}
-use borrow.Author.Rules.{rules}
+use Rattle.laws.specs.Search.{Clear}
+use Rattle.model.specs.Change.{nearby, is_there}
 use Rattle.sector_cost.proofs.nearby.is_nearby.Given as goal
 
 abbrev pub invariant-loop-k : goal.invariant-loop-k

@@ -3,8 +3,6 @@ use Prim.Native.Nat.{suc, ◌-◌}
 use native.Mathlib.Omega.{arith}
 use mathlib.Core.Path.{◌≡◌, sym, ap}
 use Rattle.model.specs.Change.{nearby}
-use Rattle.fields.specs.Bounds.{steps_small}
-use borrow.Author.Rules.{rules}
 use Rattle.sector_cost.proofs.nearby.nearby.Goals as goal
 
 pub returns-then-k-eq0 : goal.returns-then-k-eq0

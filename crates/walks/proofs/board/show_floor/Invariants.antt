@@ -1,7 +1,6 @@
 -- `show_floor` shows the floor row by row; before its first row and after its last there are walls.
 use Prim.Native.Nat.{◌-◌, ◌*◌, ◌≤◌}
-use Rattle.walks.specs.Showing.{Showing, row_start, floor_start, floor_end}
-use borrow.Author.Rules.{rules}
+use Rattle.walks.specs.Showing.{Showing, row_start}
 use Rattle.walks.proofs.board.show_floor.Given as goal
 
 abbrev pub invariant-loop-y : goal.invariant-loop-y

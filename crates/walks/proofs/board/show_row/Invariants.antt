@@ -1,8 +1,6 @@
 -- `show_row` shows a row ten cells at a time; past its last sector there are walls.
 use Prim.Native.Nat.{◌+◌, ◌-◌, ◌*◌, ◌≤◌}
-use native.Mathlib.Omega.{arith}
-use Rattle.walks.specs.Showing.{Showing, showing_at, row_start, row_end}
-use borrow.Author.Rules.{rules}
+use Rattle.walks.specs.Showing.{Showing, row_start}
 use Rattle.walks.proofs.board.show_row.Given as goal
 
 abbrev pub invariant-loop-c : goal.invariant-loop-c

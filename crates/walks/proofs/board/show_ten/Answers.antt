@@ -1,10 +1,5 @@
 -- `show_ten` copies ten cells of a row to their places; the list has them, so that no sum on the way wraps.
-use Prim.Native.Nat.{ℕ, ◌+◌, ◌*◌, ◌/◌, ◌%◌, ◌≤◌}
-use mathlib.Core.Path.{ap}
-use native.Mathlib.Omega.{arith}
-use lib.ListN.{length}
-use Rattle.walks.specs.Showing.{row_fits, row_more}
-use borrow.Author.Rules.{rules}
+use Rattle.walks.specs.Showing.{row_more}
 use Rattle.walks.proofs.board.show_ten.Goals as goal
 
 pub returns : goal.returns

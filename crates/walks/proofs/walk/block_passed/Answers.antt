@@ -1,11 +1,8 @@
 -- `block_passed` is the run of its steps, in the list and on the board.
-use Prim.Native.Nat.{◌+◌, ◌-◌}
-use native.Mathlib.Omega.{arith}
+use Prim.Native.Nat.{◌+◌}
 use mathlib.Core.Path.{◌∙◌}
-use Rattle.laws.specs.Fold.{Ran, ran_turn, counting}
-use Rattle.model.specs.Scaling.{block_step}
-use Rattle.fields.specs.Bounds.{steps_small}
-use Rattle.walks.specs.Walks.{Turned, turned_none, turned_more, block_spot, step_is, spot_is}
+use Rattle.laws.specs.Fold.{ran_turn, counting}
+use Rattle.walks.specs.Walks.{Turned, turned_none, turned_more, step_is, spot_is}
 use borrow.Author.Rules.{rules}
 use Rattle.walks.proofs.walk.block_passed.Goals as goal
 use Rattle.walks.proofs.walk.block_passed.Goals.{After-turned-y}

@@ -1,12 +1,8 @@
 -- `block_passed` is the run of its steps, in the list and on the board.
-use Prim.Native.Nat.{◌+◌, ◌-◌}
-use native.Mathlib.Omega.{arith}
-use mathlib.Core.Path.{◌∙◌}
-use Rattle.laws.specs.Fold.{Ran, ran_turn, counting}
+use Prim.Native.Nat.{◌-◌}
+use Rattle.laws.specs.Fold.{Ran}
 use Rattle.model.specs.Scaling.{block_step}
-use Rattle.fields.specs.Bounds.{steps_small}
-use Rattle.walks.specs.Walks.{Turned, turned_none, turned_more, block_spot, step_is, spot_is}
-use borrow.Author.Rules.{rules}
+use Rattle.walks.specs.Walks.{Turned, block_spot}
 use Rattle.walks.proofs.walk.block_passed.Given as goal
 
 abbrev pub invariant-loop-k : goal.invariant-loop-k

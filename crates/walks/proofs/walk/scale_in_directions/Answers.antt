@@ -1,10 +1,8 @@
 -- `scale_in_directions` makes the eight walks one after the other, in 01's order.
-use native.Mathlib.Omega.{arith}
 use mathlib.Core.Path.{refl}
 use Rattle.laws.specs.Fold.{run_none}
 use Rattle.model.specs.Scaling.{walk}
-use Rattle.walks.specs.Walks.{shows_long, walked}
-use borrow.Author.Rules.{rules}
+use Rattle.walks.specs.Walks.{walked}
 use Rattle.walks.proofs.walk.scale_in_directions.Goals as goal
 
 pub returns : goal.returns

@@ -2,9 +2,8 @@
 use Prim.Native.Nat.{◌+◌, ◌-◌}
 use mathlib.Core.Path.{◌≡◌, refl, sym, ◌∙◌, ap}
 use mathlib.Core.Bool.{not}
-use native.Mathlib.Omega.{arith}
-use Rattle.laws.specs.Search.{sought_yes, sought_no, Clear, clear_turn, seeking}
-use Rattle.walks.specs.Lines.{Reached, reached_none, reached_lt, reached_room, reached_next, blocked_on, blocked_is}
+use Rattle.laws.specs.Search.{sought_yes, sought_no}
+use Rattle.walks.specs.Lines.{Reached, reached_next, blocked_on, blocked_is}
 use borrow.Author.Rules.{rules}
 use Rattle.walks.proofs.walk.walk_line.Goals as goal
 use Rattle.walks.proofs.walk.walk_line.Goals.{After-is_open}
