@@ -12,9 +12,9 @@ import sys
 
 TOP = pathlib.Path(__file__).resolve().parent.parent
 FOLDERS = "crates|oracle|view|conformance|examples|include|bench|sample|docs|\\.ci"
-NAME = re.compile(r"(?<!`)`([^\W\d][\w·'.:/-]{2,})`(?!`)")
+NAME = re.compile(r"(?<!`)`([^\W\d][\w'.:/-]{2,})`(?!`)")
 PATH = re.compile(rf"(?<![\w./-])((?:{FOLDERS})/[\w./-]*[\w/-])")
-SPLIT = re.compile(r"[^\w·'-]+")
+SPLIT = re.compile(r"[^\w'-]+")
 
 # Documents that are not ours to mend, and quoted words that are nothing of this repository.
 GIVEN = ("docs/01-scope.md", "docs/02-change-requests.md", "docs/src/")

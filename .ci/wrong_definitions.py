@@ -23,7 +23,8 @@ import tempfile
 
 TOP = pathlib.Path(__file__).resolve().parent.parent
 CRATES = ("laws", "model", "audit")
-USED = re.compile(r"Rattle·(\w+)(?:·specs)?\.specs\.(\w+)")
+USED = re.compile(r"Rattle\.(\w+)\.specs\.(\w+)")
+ERROR = re.compile(r"^\./(\S+?\.antt):\d+:\d+: error", re.M)
 
 
 def read_edit(path):
@@ -55,17 +56,6 @@ def rests_on(file, found):
     return found
 
 
-def copy_proved(name, folder):
-    """A crate that no replacement is in, with the proof that the gate left of it, if there is one."""
-    shutil.copytree(TOP / "crates" / name, folder / "crates" / name)
-    for proved in (f"rlib/{name}.rlib", f"stamp/{name}"):
-        if (TOP / "target" / proved).is_dir():
-            shutil.copytree(TOP / "target" / proved, folder / "target" / proved)
-        elif (TOP / "target" / proved).exists():
-            (folder / "target" / proved).parent.mkdir(parents=True, exist_ok=True)
-            shutil.copy(TOP / "target" / proved, folder / "target" / proved)
-
-
 def copy_part(refuser, edited, folder):
     """A repository of the named file and what it rests on."""
     wanted = rests_on(refuser, set())
@@ -73,7 +63,8 @@ def copy_part(refuser, edited, folder):
     (folder / "crates.txt").write_text("\n".join(listed) + "\n")
     for name in CRATES:
         if name == "laws" and name not in edited:
-            copy_proved(name, folder)
+            # with the library that the gate has built of it
+            shutil.copytree(TOP / "crates" / name, folder / "crates" / name)
             continue
         shutil.copytree(TOP / "crates" / name / "src", folder / "crates" / name / "src")
         specs = folder / "crates" / name / "specs"
@@ -105,13 +96,15 @@ def try_edit(path):
         hindered = apply(pairs, folder)
         if hindered:
             return hindered
-        run = subprocess.run(["rt", "check", "audit"], cwd=folder, capture_output=True, text=True)
-    if run.returncode == 0:
-        return "not refused"
-    error = re.search(r"crates/(\S+?\.antt):\d+:\d+: error", run.stdout + run.stderr)
-    if not error or error.group(1) != refuser:
-        return f"refused by {error and error.group(1)}, not by {refuser}"
-    return None
+        for name in CRATES:
+            if name == "laws" and not any(file.startswith("laws/") for file, _, _ in pairs):
+                continue
+            run = subprocess.run(["rt", "check"], cwd=folder / "crates" / name, capture_output=True, text=True)
+            if run.returncode:
+                error = ERROR.search(run.stdout + run.stderr)
+                found = f"{name}/{error.group(1)}" if error else None
+                return None if found == refuser else f"refused by {found}, not by {refuser}"
+    return "not refused"
 
 
 def main():

@@ -4,9 +4,9 @@ set -euo pipefail
 cd "$(dirname "${BASH_SOURCE[0]}")/.."
 library=target/hall/lib/libhall.a
 mkdir -p target/hall/lib target/hall/include
-if [ ! -e "$library" ] || [ -n "$(find crates crates.txt -newer "$library" -print -quit)" ]; then
+if [ ! -e "$library" ] || [ -n "$(find crates/*/{src,specs,proofs} crates.txt -newer "$library" -print -quit)" ]; then
     echo "proving the library hall_c, which takes some minutes where nothing is proved yet" >&2
-    rt staticlib hall_c | tail -n 1
-    cp target/staticlib/libhall_c.a "$library"
+    (cd crates/hall_c && rt lib) | tail -n 1
+    cp crates/hall_c/out/libhall_c.a "$library"
 fi
 cp include/hall.h target/hall/include/hall.h

@@ -4,7 +4,7 @@ set -euo pipefail
 cd "$(dirname "${BASH_SOURCE[0]}")"
 bash install.sh
 bash ../examples/build.sh
-(cd .. && rt check hallroute | tail -n 1)
+bash ../sample/build.sh | tail -n 1
 export CARGO_TARGET_DIR="$PWD/target"
 
 cargo build --offline --release --quiet

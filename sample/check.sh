@@ -25,11 +25,14 @@ grep -q '^  0 100 2 13 5 0,0:49E9-99 1,0:0-$' "$room/out" || fail "run.sh does n
 
 # A proof that fails, by an rt in its place: run.sh had said what it does, says what rt said, and has a status.
 mkdir "$room/bin"
-printf '#!/bin/sh\necho "rt: laws proved (5 s)"\necho "why not"\nexit 1\n' >"$room/bin/rt"
+printf '#!/bin/sh\n{ echo "rt: laws proved (5 s)"; echo "why not"; } >&2\nexit 1\n' >"$room/bin/rt"
 chmod +x "$room/bin/rt"
+# Older than its sources, so that it is proved anew.
+touch -d @0 target/bin/hallroute
 if PATH="$room/bin:$PATH" bash sample/run.sh >"$room/out" 2>"$room/err"; then
     fail "run.sh goes on where the proof fails"
 fi
+touch target/bin/hallroute
 sed -i 1s/,.*// "$room/err"
 same "a proof that fails" "" "sample/run.sh: proving the program hallroute
   laws proved (5 s)

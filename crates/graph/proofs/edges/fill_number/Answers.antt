@@ -5,7 +5,7 @@ use Prim.Native.Nat.{ℕ, ◌+◌, ◌*◌, ◌≤◌, ◌<◌}
 use lib.ListN.{length}
 use Rattle.model.specs.Sectors.{sectors, floor_number}
 use Rattle.model.specs.Halls.{Hall}
-use Rattle.model.specs.Portals.{sector_portals, hall_portals, sector_arcs, portal_sector}
+use Rattle.model.specs.Portals.{sector_portals, hall_portals, sector_arcs}
 use Rattle.model.specs.Store.{decode}
 use Rattle.graph.specs.Reading.{accepted_of, fits_of, measures_are}
 use Rattle.graph.specs.Weights.{mids_long, own_none, own_some, moves_own, weight_none, weight_by}
