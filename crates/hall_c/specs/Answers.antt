@@ -13,7 +13,7 @@ use Rattle.hall_c.specs.declared.FileAnswer.{FileAnswer}
 
 -- HALL_VERSION of include/hall.h
 abbrev pub version : ℕ
-version = 3
+version = 2
 
 abbrev pub dimensions : Float → Float → Float → Float → Dimensions
 dimensions x y unit radius = record { size_x = x; size_y = y; unit = unit; radius = radius }

@@ -118,7 +118,7 @@ fn flat_file(answer: Written) -> FileAnswer
 pub extern "C" fn hall_version() -> u32
     ensures { result ≡ version }
 {
-    3
+    2
 }
 
 // A hall's columns, rows and scale from its sizes, unit and radius.
