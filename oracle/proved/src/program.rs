@@ -1,4 +1,4 @@
-//! The proved program, as `rt check hallroute` writes it at the top of the repository.
+//! The proved program, as `sample/build.sh` writes it.
 
 use std::io::{ErrorKind, Write};
 use std::process::{Command, Stdio};
@@ -13,7 +13,7 @@ pub fn hallroute(input: &[u8]) -> Vec<u8> {
         .stdout(Stdio::piped())
         .stderr(Stdio::piped())
         .spawn()
-        .expect("run `rt check hallroute` at the top of the repository first");
+        .expect("run sample/build.sh first");
     let mut stdin = child.stdin.take().expect("standard input is a pipe");
     // Both pipes may fill up, so the input goes in while the lines come out.
     let output = thread::scope(|scope| {
