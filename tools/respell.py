@@ -10,9 +10,10 @@ import collections
 import glob
 import os
 import re
+import subprocess
 import sys
 
-KIT = "/opt/rattle/rattle"
+KIT = os.path.join(os.path.dirname(subprocess.run(["rt", "doc"], capture_output=True, text=True, check=True).stdout.strip()), "rattle")
 WORD = re.compile(r"[^\s(){}\[\];,.:=λ⌜⌝\"`]+")
 DECLARED = re.compile(r"^\s*(?:(?:pub|abbrev|unfoldable|data|record)\s+)*([^\s(){};,.\[\]:=]+)\s+(?:\{[^}]*\}\s*|\([^)]*\)\s*)*:\s")
 IMPORT = re.compile(r"^\s*(?:pub\s+)?(?:ghost\s+)?use\s+([^\s{;]+?)\.?(?:\{([^}]*)\}|)\s*;?\s*$")
