@@ -2,8 +2,8 @@
 -- `within` has the shape that the borrow checker gives a list whose part `&mut s[a..a + n]` came back from a call (`put_mid`).
 use Rattle.std.specs.Prelude.{◌≡◌, refl, ℕ, ◌+◌, ◌-◌, ◌≤◌, ◌<◌, length, get_or, set}
 use Rattle.std.proofs.Math.Path.{sym, ap}
-use Rattle.std.proofs.Common.{◌∙◌, add-zero, add_assoc, not-suc-le-zero, le_of_suc-le-suc, length-append, take-append-drop, drop-drop, get_or-take, get_or-drop, length-take-le, ext_get_or}
-use mathlib.Core.List.{List, [], ◌∷◌, ◌++◌}
+use Rattle.std.proofs.Common.{◌∙◌, add-zero, add_assoc, not-suc-le-zero, le_of_suc-le-suc, length-append, take-append-drop, drop_of_length-le, drop-drop, get_or-take, get_or-drop, length-take-le, take_all, ext_get_or}
+use mathlib.Core.List.{List, [], ◌∷◌, ◌++◌, append-nil}
 use Rattle.std.proofs.Math.Nat.{add-sub_cancel_left}
 use native.Mathlib.Omega.{arith}
 use Rattle.std.proofs.Math.ListN.{take, drop, length-take, length-drop}
@@ -111,10 +111,25 @@ pub region_at : (a n : ℕ) (p q r : List ℕ) → length p ≡ a → length q �
 unfolding region
 region_at a n p q r ep eq = simp (drop_at p (q ++ r) a ep, take_at q r n eq)
 
+-- A copy from the front is whole.
+copy_end : (k : ℕ) (s d : List ℕ) → length s ≤ k → length d ≡ length s → take k s ++ drop k d ≡ s
+copy_end k s d h e = rw (take_all k s h, drop_of_length-le d {i = k} (omega arith)) (append-nil s)
+
+-- what a copy leaves in a list as long, and in a part of a list that came back from it
+pub copied : {ys : List ℕ} (from to : List ℕ) → length to ≡ length from → ys ≡ take (length from) from ++ drop (length from) to → ys ≡ from
+copied from to e h = h ∙ copy_end (length from) from to (omega arith) e
+
 -- a list as long as the part, put in its place
-pub part_put : (a : ℕ) (xs list : List ℕ) {ys : List ℕ} → ys ≡ list → put_mid a (a + length list - a) xs ys ≡ placed a list xs
+pub part_given : (a : ℕ) (xs list : List ℕ) {ys : List ℕ} → ys ≡ list → put_mid a (a + length list - a) xs ys ≡ placed a list xs
 unfolding placed
-part_put a xs list {ys} same = within_came a (length list) (a + length list - a) (λ old. list) xs ys (add-sub_cancel_left a (length list)) same
+part_given a xs list {ys} same = within_came a (length list) (a + length list - a) (λ old. list) xs ys (add-sub_cancel_left a (length list)) same
+
+pub part_put : (a : ℕ) (xs list : List ℕ) {ys : List ℕ} → a + length list ≤ length xs
+    → ys ≡ take (length list) list ++ drop (length list) (take (a + length list - a) (drop a xs)) → put_mid a (a + length list - a) xs ys ≡ placed a list xs
+part_put a xs list fits h =
+    let cut : List ℕ = take (a + length list - a) (drop a xs) in
+    let same : length cut ≡ length list = simp (length-take, length-drop) (omega arith) in
+    part_given a xs list (copied list cut same h)
 
 -- four elements set at the front
 pub header_set : (c r k : ℕ) (xs : List ℕ) → 4 ≤ length xs → set (set (set (set xs 0 c) 1 r) 2 k) 3 0 ≡ (c ∷ r ∷ k ∷ 0 ∷ []) ++ drop 4 xs

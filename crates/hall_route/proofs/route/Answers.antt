@@ -11,37 +11,24 @@ returns-then-no-gt0 c =
 
 pub returns-then-size-source : goal.returns-then-size-source
 returns-then-size-source c =
-    let m = c in
-    let both = refused_23 _ _ _ _ m.check_store-no.ensures m.if-no-gt0.false m.measures_at-m.ensures c.cells-size.ensures c.if-size-source.true in
+    let both = refused_23 _ _ _ _ c.check_store-no.ensures c.if-no-gt0.false c.measures_at-m.ensures c.cells-size.ensures c.if-size-source.true in
     record { answer = both.0; steps = both.1 }
 
 pub returns-then-size-goal : goal.returns-then-size-goal
 returns-then-size-goal c =
-    let n = c in
-    let m = n in
-    let both = refused_24 _ _ _ _ m.check_store-no.ensures m.if-no-gt0.false m.measures_at-m.ensures n.cells-size.ensures c.if-size-source.false c.if-size-goal.true in
+    let both = refused_24 _ _ _ _ c.check_store-no.ensures c.if-no-gt0.false c.measures_at-m.ensures c.cells-size.ensures c.if-size-source.false c.if-size-goal.true in
     record { answer = both.0; steps = both.1 }
 
 pub returns-then-list-steps_of : goal.returns-then-list-steps_of
 returns-then-list-steps_of c =
-    let t = c in
-    let f = t in
-    let e = f in
-    let n = e in
-    let m = n in
-    let both = refused_25 _ _ _ _ m.check_store-no.ensures m.if-no-gt0.false m.measures_at-m.ensures n.cells-size.ensures e.if-size-source.false e.if-size-goal.false
-    f.find_path-found.ensures.answer f.find_path-found.ensures.steps t.steps_of.ensures (search rules) c.if-list-steps_of.true in
+    let both = refused_25 _ _ _ _ c.check_store-no.ensures c.if-no-gt0.false c.measures_at-m.ensures c.cells-size.ensures c.if-size-source.false c.if-size-goal.false
+    c.find_path-found.ensures.answer c.find_path-found.ensures.steps c.steps_of.ensures (search rules) c.if-list-steps_of.true in
     record { answer = both.0; steps = both.1 }
 
 pub returns : goal.returns
 returns c =
-    let t = c in
-    let f = t in
-    let e = f in
-    let n = e in
-    let m = n in
-    let both = routed_all _ _ _ _ m.check_store-no.ensures m.if-no-gt0.false m.measures_at-m.ensures n.cells-size.ensures e.if-size-source.false e.if-size-goal.false
-    f.find_path-found.ensures.answer f.find_path-found.ensures.steps t.steps_of.ensures (search rules) c.if-list-steps_of.false in
+    let both = routed_all _ _ _ _ c.check_store-no.ensures c.if-no-gt0.false c.measures_at-m.ensures c.cells-size.ensures c.if-size-source.false c.if-size-goal.false
+    c.find_path-found.ensures.answer c.find_path-found.ensures.steps c.steps_of.ensures (search rules) c.if-list-steps_of.false in
     record { answer = both.0; steps = both.1 }
 
 pub measures_at-m-requires : goal.measures_at-m-requires

@@ -8,21 +8,13 @@ use Rattle.home.proofs.write_and_read.Goals as goal
 
 pub slice_bounds-read_file-end : goal.slice_bounds-read_file-end
 slice_bounds-read_file-end c =
-    let told = c in
-    let wrote = told in
-    let start = wrote in
-    inside _ start.args.output.now wrote.write_file.ensures.answer c.in-File.is (search rules)
+    inside _ c.args.output.now c.write_file.ensures.answer c.in-File.is (search rules)
 
 pub returns-in-File : goal.returns-in-File
 returns-in-File c =
     let read = c.read_file in
-    let told = c in
-    let wrote = told in
-    let start = wrote in record { written = wrote.write_file.ensures.written; back = comes_back _ start.args.output.now start.args.base.now wrote.write_file.ensures.answer c.in-File.is (ap (take (c.in-File.length - 0)) wrote.write_file.ensures.written) read.ensures.answer read.ensures.filled }
+    record { written = c.write_file.ensures.written; back = comes_back _ c.args.output.now c.args.base.now c.write_file.ensures.answer c.in-File.is (ap (take (c.in-File.length - 0)) c.write_file.ensures.written) read.ensures.answer read.ensures.filled }
 
 pub returns-in-Refused : goal.returns-in-Refused
 returns-in-Refused c =
-    let told = c in
-    let wrote = told in
-    let start = wrote in
-    record { written = wrote.write_file.ensures.written; back = refused_back _ start.args.output.now wrote.write_file.ensures.answer c.in-Refused.is }
+    record { written = c.write_file.ensures.written; back = refused_back _ c.args.output.now c.write_file.ensures.answer c.in-Refused.is }

@@ -11,8 +11,7 @@ show_floor-requires c = (search rules, showing_none c.walls-board.ensures)
 pub returns-then-m-ne1 : goal.returns-then-m-ne1
 unfolding rescaled for_nearby
 returns-then-m-ne1 c =
-    let r = c in
-    rw (r.scale_nearby.ensures, r.reset_nearby.ensures)
+    rw (c.scale_nearby.ensures, c.reset_nearby.ensures)
 
 pub returns-else-m-ne1 : goal.returns-else-m-ne1
 returns-else-m-ne1 c = rescaled_reset _ _ _ _ c.if-m-ne1.false c.reset_nearby.ensures

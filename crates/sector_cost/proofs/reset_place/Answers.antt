@@ -7,6 +7,5 @@ use Rattle.sector_cost.proofs.reset_place.Goals as goal
 
 pub reset_sector-requires : goal.reset_sector-requires
 reset_sector-requires c =
-    let t = c in
-    let a = t.args in
-    omega (arith, c.nearby.ensures, nearby_lt a.m a.t a.k (search rules) (sym t.is_there.ensures ∙ t.if-is_there.true))
+    let a = c.args in
+    omega (arith, c.nearby.ensures, nearby_lt a.m a.t a.k (search rules) (sym c.is_there.ensures ∙ c.if-is_there.true))

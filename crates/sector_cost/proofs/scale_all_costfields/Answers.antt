@@ -7,7 +7,7 @@ use borrow.Author.Rules.{rules}
 use Rattle.sector_cost.proofs.scale_all_costfields.Goals as goal
 
 pub returns-then-m-eq1 : goal.returns-then-m-eq1
-returns-then-m-eq1 c = let p = c in p.copy_from_slice.ensures.after ∙ sym (floor_one _ c.if-m-eq1.true _)
+returns-then-m-eq1 c = c.copy_from_slice.ensures.after ∙ sym (floor_one _ c.if-m-eq1.true _)
 
 pub show_floor-requires : goal.show_floor-requires
 show_floor-requires c = (search rules, showing_none c.walls-board.ensures)
@@ -15,7 +15,4 @@ show_floor-requires c = (search rules, showing_none c.walls-board.ensures)
 pub returns : goal.returns
 unfolding scale_floor
 returns c =
-    let r = c in
-    let n = r in
-    let p = n in
-    rw (r.scale_sectors.ensures, p.copy_from_slice.ensures.after, n.sectors.ensures)
+    rw (c.scale_sectors.ensures, c.copy_from_slice.ensures.after, c.sectors.ensures)

@@ -9,6 +9,4 @@ returns-then-is_open c = record { list = simp (← c.is_open.ensures, c.if-is_op
 pub returns : goal.returns
 unfolding scale_cell
 returns c =
-    let w = c in
-    let o = w in
-    record { list = simp (← o.is_open.ensures, o.if-is_open.false, w.scale_in_directions.ensures.list); shown = w.scale_in_directions.ensures.shown }
+    record { list = simp (← c.is_open.ensures, c.if-is_open.false, c.scale_in_directions.ensures.list); shown = c.scale_in_directions.ensures.shown }

@@ -6,8 +6,6 @@ use Rattle.sector_cost.proofs.scale_place.Goals as goal
 
 pub scale_costfield-requires : goal.scale_costfield-requires
 scale_costfield-requires c =
-    let n = c in
-    let t = n in
-    let a = t.args in
-    let l = nearby_lt a.m a.t a.k (search rules) (sym t.is_there.ensures ∙ t.if-is_there.true) in
-    rw n.nearby.ensures (search rules)
+    let a = c.args in
+    let l = nearby_lt a.m a.t a.k (search rules) (sym c.is_there.ensures ∙ c.if-is_there.true) in
+    rw c.nearby.ensures (search rules)

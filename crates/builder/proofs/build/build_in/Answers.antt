@@ -5,7 +5,4 @@ use Rattle.builder.proofs.build.build_in.Goals as goal
 pub returns : goal.returns
 unfolding built
 returns c =
-    let out = c in
-    let marks = out in
-    let costs = marks in
-    rw (out.write_hall.ensures, marks.mark_all.ensures, costs.scale_all_costfields.ensures)
+    rw (c.write_hall.ensures, c.mark_all.ensures, c.scale_all_costfields.ensures)

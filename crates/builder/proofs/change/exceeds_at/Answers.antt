@@ -5,16 +5,12 @@ use Rattle.builder.proofs.change.exceeds_at.Goals as goal
 
 pub windows_on-requires : goal.windows_on-requires
 windows_on-requires c =
-    let start = c in
-    (start.requires.1, beyond_few _ c.side_at-side.result start.requires.0 (search rules) c.beyond.ensures)
+    (c.requires.1, beyond_few _ c.side_at-side.result c.requires.0 (search rules) c.beyond.ensures)
 
 pub returns-then-is_edge : goal.returns-then-is_edge
 returns-then-is_edge c =
-    let facing = c in
-    let there = facing in
-    let edge = there in
-    exceeds_edge _ _ _ _ edge.args.i edge.side_at-side.ensures edge.is_edge.ensures there.if-is_edge.true there.beyond.ensures
-    facing.opposite.ensures c.windows_on.ensures c.windows_on-then-is_edge.ensures
+    exceeds_edge _ _ _ _ c.args.i c.side_at-side.ensures c.is_edge.ensures c.if-is_edge.true c.beyond.ensures
+    c.opposite.ensures c.windows_on.ensures c.windows_on-then-is_edge.ensures
 
 pub returns : goal.returns
 returns c = exceeds_not _ _ _ _ c.args.i c.side_at-side.ensures c.is_edge.ensures c.if-is_edge.false

@@ -7,9 +7,8 @@ use Rattle.builder.proofs.change.place_exceeds.Goals as goal
 
 pub sector_exceeds-requires : goal.sector_exceeds-requires
 sector_exceeds-requires c =
-    let t = c in
-    let a = t.args in
-    let there = sym t.is_there.ensures ∙ t.if-is_there.true in
+    let a = c.args in
+    let there = sym c.is_there.ensures ∙ c.if-is_there.true in
     let l = nearby_lt a.m a.t a.k (search rules) there in
     let n = place_near a.m a.t a.k (search rules) there in
     rw c.nearby.ensures (search rules)

@@ -6,7 +6,6 @@ use Rattle.builder.proofs.change.remark_place.Goals as goal
 
 pub remark_sector-requires : goal.remark_sector-requires
 remark_sector-requires c =
-    let t = c in
-    let a = t.args in
-    let l = nearby_lt a.m a.t a.k (search rules) (sym t.is_there.ensures ∙ t.if-is_there.true) in
+    let a = c.args in
+    let l = nearby_lt a.m a.t a.k (search rules) (sym c.is_there.ensures ∙ c.if-is_there.true) in
     rw c.nearby.ensures (search rules)

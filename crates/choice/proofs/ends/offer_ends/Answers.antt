@@ -10,12 +10,11 @@ pub loop-k-preserved : goal.loop-k-preserved
 loop-k-preserved c =
     let call = c.offer_end in
     let in-loop = c in
-    let at = c in
-    let inv = at.loop-k.invariant in
-    let given = at.requires in (
+    let inv = c.loop-k.invariant in
+    let given = c.requires in (
       omega (arith, in-loop.loop-k-test.true),
       call.auto.keys ∙ inv.1,
       call.auto.wait ∙ inv.2,
-      λ g sound numbers b. starts_more g sector_portals (end_at at.args.q) (end_cost at.args.lasts.now) sound (λ j l. omega (arith, given.0)) at.loop-k.keys at.loop-k.wait (inv.1
-          ∙ numbers) (inv.2 ∙ given.2 ∙ numbers) at.loop-k.k in-loop.loop-k-test.true call.ensures (inv.3 g sound numbers b),
+      λ g sound numbers b. starts_more g sector_portals (end_at c.args.q) (end_cost c.args.lasts.now) sound (λ j l. omega (arith, given.0)) c.loop-k.keys c.loop-k.wait (inv.1
+          ∙ numbers) (inv.2 ∙ given.2 ∙ numbers) c.loop-k.k in-loop.loop-k-test.true call.ensures (inv.3 g sound numbers b),
     )

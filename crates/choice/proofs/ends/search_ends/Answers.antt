@@ -20,26 +20,22 @@ wait_long c = c.offer_ends.auto.wait ∙ c.fill_wait.auto.wait ∙ c.requires.se
 
 pub returns : goal.returns
 returns c =
-    let call = c in
-    let o = call in
-    let w = o in
-    let k = w in
-    let start = k in
-    let given = start.requires.searched in
+    let after_offer_ends = (goal.at.returns c).After-offer_ends in
+    let given = c.requires.searched in
     let sound = given.0.graph.sound in
-    let g = table_graph start.args.m start.args.table.now in
-    let q = start.args.q in
-    let lasts = start.args.lasts.now in
-    let keys = call.settle.new.keys in
+    let g = table_graph c.args.m c.args.table.now in
+    let q = c.args.q in
+    let lasts = c.args.lasts.now in
+    let keys = c.settle.new.keys in
     let to = end_at q in
     let cost = end_cost lasts in
     let begun = starts_none g sector_portals to cost sound (λ j l. omega (arith, given.2)) unlinked (omega arith) given.0.graph.numbers given.1
-    k.fill_keys.ensures w.fill_wait.ensures in
+    c.fill_keys.ensures c.fill_wait.ensures in
     let waiting =
-    starts_all g sector_portals to cost sound (λ j l. omega (arith, given.2)) o.offer_ends.new.keys o.offer_ends.new.wait
-    (o.offer_ends.ensures g sound (k.fill_keys.auto.keys ∙ given.0.graph.numbers) begun) in
-    let kept = call.settle.ensures.kept (ends_graph g q lasts) (0 ∷ []) (starts_extends g sector_portals to cost sound (λ j l. omega (arith, given.2))) g.nodes unlinked waiting in
+    starts_all g sector_portals to cost sound (λ j l. omega (arith, given.2)) c.offer_ends.new.keys c.offer_ends.new.wait
+    (c.offer_ends.ensures g sound (c.fill_keys.auto.keys ∙ given.0.graph.numbers) begun) in
+    let kept = c.settle.ensures.kept (ends_graph g q lasts) (0 ∷ []) (starts_extends g sector_portals to cost sound (λ j l. omega (arith, given.2))) g.nodes unlinked waiting in
     let settled =
-    starts_over g sector_portals to cost sound (λ j l. omega (arith, given.2)) keys call.settle.new.wait
-    (call.settle.auto.wait ∙ wait_long (goal.at.returns c).After-offer_ends) kept (λ v l. call.settle.ensures.over v (omega (arith, keys_long (goal.at.returns c).After-offer_ends))) in
-    ends_nearest q lasts keys sound start.requires.both_ways (omega (arith, given.0.few)) given.0.graph.light given.2 (call.settle.auto.keys ∙ keys_long (goal.at.returns c).After-offer_ends) settled
+    starts_over g sector_portals to cost sound (λ j l. omega (arith, given.2)) keys c.settle.new.wait
+    (c.settle.auto.wait ∙ wait_long after_offer_ends) kept (λ v l. c.settle.ensures.over v (omega (arith, keys_long after_offer_ends))) in
+    ends_nearest q lasts keys sound c.requires.both_ways (omega (arith, given.0.few)) given.0.graph.light given.2 (c.settle.auto.keys ∙ keys_long after_offer_ends) settled

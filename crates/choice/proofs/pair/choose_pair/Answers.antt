@@ -12,18 +12,13 @@ zero_at c l = get_or-replicate {A = ℕ} sector_portals c 0 0 l
 
 pub returns-then-c-ge-SECTOR_PORTALS : goal.returns-then-c-ge-SECTOR_PORTALS
 returns-then-c-ge-SECTOR_PORTALS c =
-    let g = c in
-    let s = g in
-    let given = s.requires.searched in
-    no_start given.0.graph.sound s.requires.both_ways s.args.p s.args.q given.1 given.2 s.args.legs.now s.args.lasts.now (replicate sector_portals 0) zero_at
-    g.keys_to_goal.new.keys g.keys_to_goal.ensures c.first_place-c.ensures c.if-c-ge-SECTOR_PORTALS.true
+    let given = c.requires.searched in
+    no_start given.0.graph.sound c.requires.both_ways c.args.p c.args.q given.1 given.2 c.args.legs.now c.args.lasts.now (replicate sector_portals 0) zero_at
+    c.keys_to_goal.new.keys c.keys_to_goal.ensures c.first_place-c.ensures c.if-c-ge-SECTOR_PORTALS.true
 
 pub returns : goal.returns
 returns c =
-    let e = c in
-    let g = e in
-    let s = g in
-    let given = s.requires.searched in
-    first_pair given.0.graph.sound s.requires.both_ways s.args.p s.args.q given.1 given.2 s.args.legs.now s.args.lasts.now (replicate sector_portals 0) zero_at
-    g.keys_to_goal.new.keys g.keys_to_goal.ensures e.first_place-c.ensures (omega (arith, e.if-c-ge-SECTOR_PORTALS.false)) c.keys_to.new.keys c.keys_to.ensures
+    let given = c.requires.searched in
+    first_pair given.0.graph.sound c.requires.both_ways c.args.p c.args.q given.1 given.2 c.args.legs.now c.args.lasts.now (replicate sector_portals 0) zero_at
+    c.keys_to_goal.new.keys c.keys_to_goal.ensures c.first_place-c.ensures (omega (arith, c.if-c-ge-SECTOR_PORTALS.false)) c.keys_to.new.keys c.keys_to.ensures
     c.first_place-d.ensures

@@ -5,6 +5,5 @@ use Rattle.fields.proofs.copies.copy_part.Goals as goal
 
 pub returns : goal.returns
 returns c =
-    let p = c in
-    let a = p.args in
-    part_came a.from.now a.a a.n a.b a.to.now (search rules) p.put_part.ensures
+    let a = c.args in
+    part_came a.from.now a.a a.n a.b a.to.now (search rules) c.put_part.ensures

@@ -35,30 +35,31 @@ pub bounds-mids-p : goal.bounds-mids-p
 bounds-mids-p c = omega (arith, mids_20 (goal.at.bounds-mids-p c).Start)
 
 pub clear_places-requires : goal.clear_places-requires
-clear_places-requires c = (few (goal.at.clear_places-requires c).Start, room (goal.at.clear_places-requires c).Start)
+clear_places-requires c =
+    let start = (goal.at.clear_places-requires c).Start in
+    (few start, room start)
 
 pub returns-then-mid-ge-NO_CROSSING : goal.returns-then-mid-ge-NO_CROSSING
 returns-then-mid-ge-NO_CROSSING c =
-    let at = c in
-    c.clear_places.ensures.grown _ _ at.requires.opened.3
-    (λ k l. weight_none (H (goal.at.returns-then-mid-ge-NO_CROSSING c).Start) at.args.p k l (inside (goal.at.returns-then-mid-ge-NO_CROSSING c).Start k l) (own_none (H (goal.at.returns-then-mid-ge-NO_CROSSING c).Start) at.args.p at.requires.opened.2 (fits_of at.requires.opened.0) c.if-mid-ge-NO_CROSSING.true))
+    let start = (goal.at.returns-then-mid-ge-NO_CROSSING c).Start in
+    c.clear_places.ensures.grown _ _ c.requires.opened.3
+    (λ k l. weight_none (H start) c.args.p k l (inside start k l) (own_none (H start) c.args.p c.requires.opened.2 (fits_of c.requires.opened.0) c.if-mid-ge-NO_CROSSING.true))
 
 pub fill_places-requires : goal.fill_places-requires
 fill_places-requires c =
+    let start = (goal.at.fill_places-requires c).Start in
     let spread = c.moves_from-n.ensures in
-    let at = c in
-    (spread.long, spread.few, mids_20 (goal.at.fill_places-requires c).Start, few (goal.at.fill_places-requires c).Start, room (goal.at.fill_places-requires c).Start)
+    (spread.long, spread.few, mids_20 start, few start, room start)
 
 pub returns : goal.returns
 returns c =
+    let start = (goal.at.returns c).Start in
     let spread = c.moves_from-n.ensures in
     let found = c.wide in
-    let sector = c in
-    let at = sector in
-    let p = at.args.p in
-    let own = own_some (H (goal.at.returns c).Start) p at.requires.opened.2 sector.if-mid-ge-NO_CROSSING.false in
+    let p = c.args.p in
+    let own = own_some (H start) p c.requires.opened.2 c.if-mid-ge-NO_CROSSING.false in
     let moves =
-    moves_own (H (goal.at.returns c).Start) p found.result (ap (λ (s : ℕ). floor_number s found.result) sector.portal_sector.ensures) (found.ensures.0 ∙ own.1)
-    (omega (arith, found.ensures.0, sector.if-mid-ge-NO_CROSSING.false)) spread.found in
-    c.fill_places.ensures.grown _ _ at.requires.opened.3
-    (λ k l. weight_by (H (goal.at.returns c).Start) p k l (inside (goal.at.returns c).Start k l) (fits_of at.requires.opened.0) own.0 moves at.requires.opened.2 c.outer_edge-outer.ensures)
+    moves_own (H start) p found.result (ap (λ (s : ℕ). floor_number s found.result) c.portal_sector.ensures) (found.ensures.0 ∙ own.1)
+    (omega (arith, found.ensures.0, c.if-mid-ge-NO_CROSSING.false)) spread.found in
+    c.fill_places.ensures.grown _ _ c.requires.opened.3
+    (λ k l. weight_by (H start) p k l (inside start k l) (fits_of c.requires.opened.0) own.0 moves c.requires.opened.2 c.outer_edge-outer.ensures)

@@ -6,23 +6,15 @@ use Rattle.graph.proofs.edges.outer_edge.Goals as goal
 
 pub returns-then-not-has_beyond : goal.returns-then-not-has_beyond
 returns-then-not-has_beyond c =
-    let side = c in
-    let start = side in
-    outer_is start.requires.0 start.args.p false _ side.portal_sector.ensures side.portal_side.ensures c.has_beyond.ensures
+    outer_is c.requires.0 c.args.p false _ c.portal_sector.ensures c.portal_side.ensures c.has_beyond.ensures
     c.if-not-has_beyond.true refl refl refl
 
 pub returns-then-is_portal : goal.returns-then-is_portal
 returns-then-is_portal c =
-    let at = c in
-    let side = at in
-    let start = side in
-    outer_is start.requires.0 start.args.p true true side.portal_sector.ensures side.portal_side.ensures at.has_beyond.ensures at.if-not-has_beyond.false
+    outer_is c.requires.0 c.args.p true true c.portal_sector.ensures c.portal_side.ensures c.has_beyond.ensures c.if-not-has_beyond.false
     c.facing.ensures c.is_portal.ensures c.if-is_portal.true
 
 pub returns : goal.returns
 returns c =
-    let at = c in
-    let side = at in
-    let start = side in
-    outer_is start.requires.0 start.args.p true false side.portal_sector.ensures side.portal_side.ensures at.has_beyond.ensures at.if-not-has_beyond.false
+    outer_is c.requires.0 c.args.p true false c.portal_sector.ensures c.portal_side.ensures c.has_beyond.ensures c.if-not-has_beyond.false
     c.facing.ensures c.is_portal.ensures c.if-is_portal.false

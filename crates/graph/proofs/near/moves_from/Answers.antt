@@ -11,14 +11,9 @@ use Rattle.graph.proofs.near.moves_from.Goals as goal
 
 pub spread-requires : goal.spread-requires
 spread-requires c =
-    let p = c in
-    let start = p in
-    (p.sector_part.ensures.1, start.requires.2 ∙ ap open_words (sym (sector_read start.requires.0 _ p.sector_part.ensures.0)), omega arith, start.requires.3)
+    (c.sector_part.ensures.1, c.requires.2 ∙ ap open_words (sym (sector_read c.requires.0 _ c.sector_part.ensures.0)), omega arith, c.requires.3)
 
 pub returns : goal.returns
 returns c =
-    let w = c in
-    let p = w in
-    let start = p in
-    let spread = w.spread.ensures in
-    record { long = spread.long; few = spread.few; found = spread.found ∙ ap (λ (k : List ℕ). moves k (place_of start.args.x)) (sector_read start.requires.0 _ p.sector_part.ensures.0) }
+    let spread = c.spread.ensures in
+    record { long = spread.long; few = spread.few; found = spread.found ∙ ap (λ (k : List ℕ). moves k (place_of c.args.x)) (sector_read c.requires.0 _ c.sector_part.ensures.0) }

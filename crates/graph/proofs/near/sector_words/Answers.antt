@@ -6,6 +6,4 @@ use Rattle.graph.proofs.near.sector_words.Goals as goal
 
 pub returns : goal.returns
 returns c =
-    let w = c in
-    let p = w in
-    w.open_words.ensures ∙ ap open_words (sector_read p.requires.0 _ p.sector_part.ensures.0)
+    c.open_words.ensures ∙ ap open_words (sector_read c.requires.0 _ c.sector_part.ensures.0)

@@ -15,7 +15,7 @@ use Rattle.graph.proofs.portals.facing.Goals.{After-beyond, After-side_number}
 
 -- how large its parts are
 far : (c : After-beyond) → c.beyond.result ≤ 110
-far c = let at = c in omega (arith, c.beyond.ensures, at.portal_sector.ensures, beyond_low at.args.m at.portal_sector.result at.portal_side-side.result)
+far c = omega (arith, c.beyond.ensures, c.portal_sector.ensures, beyond_low c.args.m c.portal_sector.result c.portal_side-side.result)
 
 near : (c : After-side_number) → c.side_number.result < 4
 near c = omega (arith, c.side_number.ensures, side_low c.opposite.result)
@@ -28,11 +28,8 @@ same m p e t f g k j = rw (j, k, g, f, t, e)
 
 pub returns : goal.returns
 returns c =
-    let number = c in
-    let at = number in
-    let start = at in
-    same start.args.m start.args.p at.portal_side-side.ensures at.portal_sector.ensures number.beyond.ensures number.opposite.ensures
-    number.side_number.ensures c.portal_window.ensures
+    same c.args.m c.args.p c.portal_side-side.ensures c.portal_sector.ensures c.beyond.ensures c.opposite.ensures
+    c.side_number.ensures c.portal_window.ensures
 
 pub overflow_mul-result : goal.overflow_mul-result
 overflow_mul-result c = omega (arith, far c)

@@ -8,4 +8,4 @@ pub returns-then-c-p : goal.returns-then-c-p
 returns-then-c-p c = c.facing.ensures ∙ sym (head_own (bare c.args.m) c.args.p c.args.c c.if-c-p.true)
 
 pub returns : goal.returns
-returns c = let start = c in rw c.portal_sector.ensures (sym (head_other (bare start.args.m) start.args.p start.args.c c.if-c-p.false))
+returns c = rw c.portal_sector.ensures (sym (head_other (bare c.args.m) c.args.p c.args.c c.if-c-p.false))

@@ -6,13 +6,11 @@ use Rattle.graph.specs.Reading.{no_sector, window_test}
 use Rattle.graph.proofs.portals.is_portal.Goals as goal
 
 pub returns-then-sectors-portal_sector : goal.returns-then-sectors-portal_sector
-returns-then-sectors-portal_sector c = let at = c in no_sector at.requires at.args.p (omega (arith, at.sectors.ensures, c.portal_sector.ensures))
+returns-then-sectors-portal_sector c = no_sector c.requires c.args.p (omega (arith, c.sectors.ensures, c.portal_sector.ensures))
 
 pub returns : goal.returns
 returns c =
-    let at = c in
-    let start = at in
     let mark = c.mark_of.ensures in
     rw c.portal_window.ensures
-    (window_test start.requires start.args.p c.window_count.result (omega (arith, at.sectors.ensures, at.portal_sector.ensures))
+    (window_test c.requires c.args.p c.window_count.result (omega (arith, c.sectors.ensures, c.portal_sector.ensures))
     (c.window_count.ensures.1 mark.1 ∙ ap window_count mark.0))

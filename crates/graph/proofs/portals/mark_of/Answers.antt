@@ -6,6 +6,5 @@ use Rattle.graph.proofs.portals.mark_of.Goals as goal
 
 pub returns : goal.returns
 returns c =
-    let start = c in
-    let is = c.mark_in.ensures ∙ mark_read start.requires.0 start.args.p start.requires.1 in
-    (is, omega (arith, is, mark_low start.requires.0 start.args.p))
+    let is = c.mark_in.ensures ∙ mark_read c.requires.0 c.args.p c.requires.1 in
+    (is, omega (arith, is, mark_low c.requires.0 c.args.p))

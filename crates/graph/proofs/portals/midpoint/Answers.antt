@@ -17,10 +17,7 @@ same n j e p q = rw (e, p, q)
 pub returns : goal.returns
 unfolding midpoint crossing
 returns c =
-    let side = c in
-    let run = side in
-    let start = run in
-    let h = decode start.args.st.now in
+    let h = decode c.args.st.now in
     let is = c.wide.ensures.0 ∙ c.border_index.ensures
-    ∙ same (portal_mark h start.args.p) (portal_window start.args.p) side.portal_side.ensures run.portal_run-run.ensures.begins run.portal_run-run.ensures.ends in
-    (is, omega (arith, is, mid_low h (fits_of start.requires.0) start.args.p start.requires.1))
+    ∙ same (portal_mark h c.args.p) (portal_window c.args.p) c.portal_side.ensures c.portal_run-run.ensures.begins c.portal_run-run.ensures.ends in
+    (is, omega (arith, is, mid_low h (fits_of c.requires.0) c.args.p c.requires.1))

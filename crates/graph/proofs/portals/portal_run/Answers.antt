@@ -9,11 +9,9 @@ mark_of-requires c = (c.requires.0, portal_sector_lem c.requires.0 c.args.p c.re
 
 pub window_at-requires : goal.window_at-requires
 window_at-requires c =
-    let start = c in
     let mark = c.mark_of.ensures in
-    (mark.1, rw (c.portal_window.ensures, mark.0) (portal_is (decode start.args.st.now) start.args.p start.requires.1).among)
+    (mark.1, rw (c.portal_window.ensures, mark.0) (portal_is (decode c.args.st.now) c.args.p c.requires.1).among)
 
 pub returns : goal.returns
 returns c =
-    let start = c in
-    places_of_lem start.requires.0 start.args.p start.requires.1 c.mark_of.ensures.0 (rw c.portal_window.ensures at c.window_at.ensures)
+    places_of_lem c.requires.0 c.args.p c.requires.1 c.mark_of.ensures.0 (rw c.portal_window.ensures at c.window_at.ensures)

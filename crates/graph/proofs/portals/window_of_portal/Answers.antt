@@ -5,10 +5,9 @@ use Rattle.graph.specs.Reading.{portal_sector_lem}
 use Rattle.graph.proofs.portals.window_of_portal.Goals as goal
 
 pub mark_of-requires : goal.mark_of-requires
-mark_of-requires c = let start = c in (start.requires.0, portal_sector_lem start.requires.0 start.args.p start.requires.1)
+mark_of-requires c = (c.requires.0, portal_sector_lem c.requires.0 c.args.p c.requires.1)
 
 pub window_of-requires : goal.window_of-requires
 window_of-requires c =
-    let start = c in
     let mark = c.mark_of.ensures in
-    (mark.1, rw (c.portal_window.ensures, mark.0) (portal_is (decode start.args.st.now) start.args.p start.requires.1).among)
+    (mark.1, rw (c.portal_window.ensures, mark.0) (portal_is (decode c.args.st.now) c.args.p c.requires.1).among)

@@ -6,9 +6,7 @@ use Rattle.hall.proofs.change.change.Goals as goal
 
 pub returns-then-cells-n : goal.returns-then-cells-n
 returns-then-cells-n c =
-    let m = c in
-    let no = m in
-    record { answer = search (rules, changing); store = kept_21 _ _ _ no.check_store-no.ensures no.if-no-gt0.false m.measures_at-m.ensures c.cells.ensures c.if-cells-n.true }
+    record { answer = search (rules, changing); store = kept_21 _ _ _ c.check_store-no.ensures c.if-no-gt0.false c.measures_at-m.ensures c.cells.ensures c.if-cells-n.true }
 
 pub returns-then-no-gt0 : goal.returns-then-no-gt0
 returns-then-no-gt0 c = search (rules, changing)

@@ -29,12 +29,10 @@ unfolding check_number
 returns-then-too_short c = search (rules, refuse_here, refuse_past, le-ltb, sectors_found, scale_found, fourth_good, room_found) depth 20
 
 pub any_bad_mark-requires : goal.any_bad_mark-requires
-any_bad_mark-requires c =
-    let scale = c in
-    let sides = scale in (
-      accepted _ (flag sides.bad_sectors.ensures sides.if-bad_sectors.false) (flag scale.bad_scale.ensures scale.if-bad_scale.false),
-      ltb-false _ _ (flag c.too_short.ensures c.if-too_short.false),
-    )
+any_bad_mark-requires c = (
+  accepted _ (flag c.bad_sectors.ensures c.if-bad_sectors.false) (flag c.bad_scale.ensures c.if-bad_scale.false),
+  ltb-false _ _ (flag c.too_short.ensures c.if-too_short.false),
+)
 
 pub returns-then-any_bad_mark : goal.returns-then-any_bad_mark
 unfolding check_number

@@ -11,28 +11,19 @@ returns-then-no-gt0 c =
 
 pub returns-then-sectors-sector : goal.returns-then-sectors-sector
 returns-then-sectors-sector c =
-    let m = c in
-    let both = refused_26 _ _ _ m.check_store-no.ensures m.if-no-gt0.false m.measures_at-m.ensures c.sectors.ensures c.if-sectors-sector.true in
+    let both = refused_26 _ _ _ c.check_store-no.ensures c.if-no-gt0.false c.measures_at-m.ensures c.sectors.ensures c.if-sectors-sector.true in
     record { answer = both.0; listed = both.1 }
 
 pub returns-then-list-windows_number : goal.returns-then-list-windows_number
 returns-then-list-windows_number c =
-    let n = c in
-    let s = n in
-    let m = s in
-    let both = refused_27 _ _ _ m.check_store-no.ensures m.if-no-gt0.false m.measures_at-m.ensures s.sectors.ensures s.if-sectors-sector.false n.sector_marks-marks.ensures
-    n.windows_number.ensures c.if-list-windows_number.true in
+    let both = refused_27 _ _ _ c.check_store-no.ensures c.if-no-gt0.false c.measures_at-m.ensures c.sectors.ensures c.if-sectors-sector.false c.sector_marks-marks.ensures
+    c.windows_number.ensures c.if-list-windows_number.true in
     record { answer = both.0; listed = both.1 }
 
 pub returns : goal.returns
 returns c =
-    let l = c in
-    let e = l in
-    let n = e in
-    let s = n in
-    let m = s in
-    let both = listed_all _ _ _ m.check_store-no.ensures m.if-no-gt0.false m.measures_at-m.ensures s.sectors.ensures s.if-sectors-sector.false n.sector_marks-marks.ensures
-    n.windows_number.ensures e.if-list-windows_number.false c.byte.ensures l.sector_windows.ensures.0 l.sector_windows.ensures.1 in
+    let both = listed_all _ _ _ c.check_store-no.ensures c.if-no-gt0.false c.measures_at-m.ensures c.sectors.ensures c.if-sectors-sector.false c.sector_marks-marks.ensures
+    c.windows_number.ensures c.if-list-windows_number.false c.byte.ensures c.sector_windows.ensures.0 c.sector_windows.ensures.1 in
     record { answer = both.0; listed = both.1 }
 
 pub measures_at-m-requires : goal.measures_at-m-requires

@@ -9,15 +9,12 @@ returns-then-no-gt0 c = search (rules, refused_answer, refused_list)
 
 pub measures_at-requires : goal.measures_at-requires
 measures_at-requires c =
-    let f = c in
-    let args = f.args in
-    omega (arith, (read_on args.file.now args.base.now _ f.read_number-no.ensures f.if-no-gt0.false).form.head)
+    let args = c.args in
+    omega (arith, (read_on args.file.now args.base.now _ c.read_number-no.ensures c.if-no-gt0.false).form.head)
 
 pub returns : goal.returns
 returns c =
-    let f = c in
-    let n = f in
-    let both = read_accepted _ _ _ n.read_number-no.ensures n.if-no-gt0.false c.measures_at.ensures f.fill_from.ensures in
+    let both = read_accepted _ _ _ c.read_number-no.ensures c.if-no-gt0.false c.measures_at.ensures c.fill_from.ensures in
     record { answer = both.0; filled = both.1 }
 
 pub fill_from-requires : goal.fill_from-requires

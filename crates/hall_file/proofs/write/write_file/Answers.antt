@@ -11,14 +11,11 @@ use Rattle.hall_file.proofs.write.write_file.Goals.{After-named_count-count}
 -- the base costs are few
 few : (c : After-named_count-count) → length c.base_part-base.result.now ≤ 10000
 few c =
-    let m = c in
-    let n = m in
-    few_cells _ n.check_store-no.ensures m.if-no-gt0.false m.measures_at-m.ensures c.base_part-base.ensures.1
+    few_cells _ c.check_store-no.ensures c.if-no-gt0.false c.measures_at-m.ensures c.base_part-base.ensures.1
 
 pub make_file-requires : goal.make_file-requires
 make_file-requires c =
-    let n = c in
-    (few (goal.at.make_file-requires c).After-named_count-count, n.named_count-count.ensures.0, omega (arith, c.if-output-size.false))
+    (few (goal.at.make_file-requires c).After-named_count-count, c.named_count-count.ensures.0, omega (arith, c.if-output-size.false))
 
 pub returns-then-no-gt0 : goal.returns-then-no-gt0
 returns-then-no-gt0 c = search (rules, refused_store, kept_store)

@@ -4,15 +4,11 @@ use Rattle.hallroute.proofs.lines.next_line.Goals as goal
 
 pub returns-then-pairs-at-lt4 : goal.returns-then-pairs-at-lt4
 returns-then-pairs-at-lt4 c =
-    let put = c in
-    let few = put in
-    let both = cut_line _ _ _ few.requires.0 few.if-pairs-at-lt4.true put.put_text.ensures in
+    let both = cut_line _ _ _ c.requires.0 c.if-pairs-at-lt4.true c.put_text.ensures in
     record { size = both.0; written = both.1 }
 
 pub returns : goal.returns
 returns c =
-    let p = c in
-    let goal = p in
-    let both = pair_line_lem _ _ _ _ goal.if-pairs-at-lt4.false goal.u16_at.ensures.0 goal.u16_at-2.ensures.0 p.pair_line.ensures.size.0 p.pair_line.ensures.size.1
-    p.pair_line.ensures.written in
+    let both = pair_line_lem _ _ _ _ c.if-pairs-at-lt4.false c.u16_at.ensures.0 c.u16_at-2.ensures.0 c.pair_line.ensures.size.0 c.pair_line.ensures.size.1
+    c.pair_line.ensures.written in
     record { size = both.0; written = both.1 }

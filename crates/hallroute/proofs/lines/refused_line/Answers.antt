@@ -4,8 +4,5 @@ use Rattle.hallroute.proofs.lines.refused_line.Goals as goal
 
 pub returns : goal.returns
 returns c =
-    let end = c in
-    let number = end in
-    let words = number in
-    let both = refused_text _ words.put_text-place.ensures number.put_small-end.ensures.0 end.put_byte.ensures in
+    let both = refused_text _ c.put_text-place.ensures c.put_small-end.ensures.0 c.put_byte.ensures in
     record { size = both.0; written = both.1 }

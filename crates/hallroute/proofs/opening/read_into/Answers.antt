@@ -7,15 +7,11 @@ use Rattle.hallroute.proofs.opening.read_into.Goals as goal
 
 pub returns-in-Accepted : goal.returns-in-Accepted
 returns-in-Accepted c =
-    let built = c in
-    let known = built in
-    let read = known in
-    let both = file_built _ _ _ (search rules) (search rules) (sym c.in-Accepted.is ∙ read_case _ _ read.read_file.ensures.answer) (search rules) read.read_file.ensures.filled built.build.ensures.answer
-    built.build.ensures.store in
+    let both = file_built _ _ _ (search rules) (search rules) (sym c.in-Accepted.is ∙ read_case _ _ c.read_file.ensures.answer) (search rules) c.read_file.ensures.filled c.build.ensures.answer
+    c.build.ensures.store in
     record { number = both.0; store = both.1 }
 
 pub returns-in-Refused : goal.returns-in-Refused
 returns-in-Refused c =
-    let read = c in
-    let both = file_refused _ _ _ read.requires.0 (sym c.in-Refused.is ∙ read_case _ _ read.read_file.ensures.answer) in
+    let both = file_refused _ _ _ c.requires.0 (sym c.in-Refused.is ∙ read_case _ _ c.read_file.ensures.answer) in
     record { number = both.0; store = both.1 }

@@ -14,5 +14,5 @@ loop-y-preserved c = (omega arith, packed_more _ _ c.loop-y.invariant.1 (c.long_
 
 pub returns : goal.returns
 unfolding open_word
-returns c = let start = c in c.loop-y.invariant.1 ∙ ap (λ (n : ℕ).
-    packed (λ k. open_row start.args.costs.now (start.args.h * 5 + k)) n) (omega (arith, c.loop-y.invariant.0, c.loop-y-test.false))
+returns c = c.loop-y.invariant.1 ∙ ap (λ (n : ℕ).
+    packed (λ k. open_row c.args.costs.now (c.args.h * 5 + k)) n) (omega (arith, c.loop-y.invariant.0, c.loop-y-test.false))

@@ -18,32 +18,25 @@ at_last : {f : ℕ → ℕ} {l : List ℕ} {d : ℕ} → Levels f l (d + 1) → 
 at_last {f} {l} all e = rw e at all
 
 pub returns-then-costs-from : goal.returns-then-costs-from
-returns-then-costs-from c = let start = c in
-    spread_blocked _ _ start.requires.0 start.requires.2 c.if-costs-from.true
-    (levels_first _ _ start.requires.2 start.args.levels.now start.requires.3 c.begin.ensures)
+returns-then-costs-from c = spread_blocked _ _ c.requires.0 c.requires.2 c.if-costs-from.true
+    (levels_first _ _ c.requires.2 c.args.levels.now c.requires.3 c.begin.ensures)
 
 pub loop-d-init : goal.loop-d-init
-loop-d-init c = let start = c in
-    (omega arith, levels_first _ _ start.requires.2 start.args.levels.now start.requires.3 c.begin.ensures)
+loop-d-init c = (omega arith, levels_first _ _ c.requires.2 c.args.levels.now c.requires.3 c.begin.ensures)
 
 pub grow-requires : goal.grow-requires
-grow-requires c = let start = c in
-    (words_two _ start.requires.1, c.loop-d-test.true, c.loop-d.invariant.1.long)
+grow-requires c = (words_two _ c.requires.1, c.loop-d-test.true, c.loop-d.invariant.1.long)
 
 pub returns-then-grow-eq0 : goal.returns-then-grow-eq0
-returns-then-grow-eq0 c = let at = c in
-    let start = c in
-    spread_still _ _ start.requires.0 start.requires.2 at.if-costs-from.false start.requires.1 c.loop-d-test.true c.grow.ensures
-    at.loop-d.invariant.1 c.if-grow-eq0.true
+returns-then-grow-eq0 c = spread_still _ _ c.requires.0 c.requires.2 c.if-costs-from.false c.requires.1 c.loop-d-test.true c.grow.ensures
+    c.loop-d.invariant.1 c.if-grow-eq0.true
 
 pub loop-d-preserved : goal.loop-d-preserved
-loop-d-preserved c = let at = c in
-    let start = c in (
-      omega (arith, c.loop-d-test.true),
-      spread_more _ _ start.requires.0 start.requires.2 at.if-costs-from.false start.requires.1 c.loop-d-test.true c.grow.ensures
-          at.loop-d.invariant.1,
-    )
+loop-d-preserved c = (
+  omega (arith, c.loop-d-test.true),
+  spread_more _ _ c.requires.0 c.requires.2 c.if-costs-from.false c.requires.1 c.loop-d-test.true c.grow.ensures
+      c.loop-d.invariant.1,
+)
 
 pub returns : goal.returns
-returns c = let start = c in
-    spread_last _ _ start.requires.0 start.requires.2 (at_last c.loop-d.invariant.1 (omega (arith, c.loop-d.invariant.0, c.loop-d-test.false)))
+returns c = spread_last _ _ c.requires.0 c.requires.2 (at_last c.loop-d.invariant.1 (omega (arith, c.loop-d.invariant.0, c.loop-d-test.false)))

@@ -28,17 +28,17 @@ pub bounds-table-a : goal.bounds-table-a
 bounds-table-a c = let k = c.requires in omega (arith, (searched_of k.0).long, k.1)
 
 pub returns-then-w-eq0 : goal.returns-then-w-eq0
-returns-then-w-eq0 c = let start = c in record {
-  is = passes_by start.args.m start.args.table.now (node_rank (decode start.args.st.now)) start.args.keys.now start.args.u start.args.a start.args.best start.requires.2
+returns-then-w-eq0 c = record {
+  is = passes_by c.args.m c.args.table.now (node_rank (decode c.args.st.now)) c.args.keys.now c.args.u c.args.a c.args.best c.requires.2
       c.if-w-eq0.true;
-  some = start.requires.3;
+  some = c.requires.3;
 }
 
 pub returns-then-key-w : goal.returns-then-key-w
-returns-then-key-w c = let start = c in record {
-  is = too_short start.args.m start.args.table.now (node_rank (decode start.args.st.now)) start.args.keys.now start.args.u start.args.a start.args.best start.requires.2
+returns-then-key-w c = record {
+  is = too_short c.args.m c.args.table.now (node_rank (decode c.args.st.now)) c.args.keys.now c.args.u c.args.a c.args.best c.requires.2
       c.if-key-w.true;
-  some = start.requires.3;
+  some = c.requires.3;
 }
 
 pub offset_bounds-keys-v : goal.offset_bounds-keys-v
@@ -48,25 +48,27 @@ pub bounds-keys-v : goal.bounds-keys-v
 bounds-keys-v c = omega (arith, in_v (goal.at.bounds-keys-v c).After-head_of-v, c.requires.0.numbers)
 
 pub returns-then-key-w-2 : goal.returns-then-key-w-2
-returns-then-key-w-2 c = let n = c in record {
-  is = not_exact n.args.m n.args.table.now (node_rank (decode n.args.st.now)) n.args.keys.now n.args.u n.args.a
-      n.args.best n.requires.2 n.head_of-v.result n.head_of-v.ensures (λ q. c.if-key-w-2.true (omega arith));
-  some = n.requires.3;
+returns-then-key-w-2 c = record {
+  is = not_exact c.args.m c.args.table.now (node_rank (decode c.args.st.now)) c.args.keys.now c.args.u c.args.a
+      c.args.best c.requires.2 c.head_of-v.result c.head_of-v.ensures (λ q. c.if-key-w-2.true (omega arith));
+  some = c.requires.3;
 }
 
 pub better-requires : goal.better-requires
-better-requires c = let n = c in (n.requires.0.opened, there (goal.at.better-requires c).After-head_of-v, n.requires.3)
+better-requires c = (c.requires.0.opened, there (goal.at.better-requires c).After-head_of-v, c.requires.3)
 
 pub returns-then-better : goal.returns-then-better
-returns-then-better c = let n = c in record {
-  is = goes_there n.args.m n.args.table.now (node_rank (decode n.args.st.now)) n.args.keys.now n.args.u
-      n.args.a n.args.best n.requires.2 n.head_of-v.result n.head_of-v.ensures (pos (goal.at.returns-then-better c).After-head_of-v) (omega arith) (c.better.ensures n.args.table.now) c.if-better.true;
-  some = inr (there (goal.at.returns-then-better c).After-head_of-v);
-}
+returns-then-better c =
+    let after_head_of_v = (goal.at.returns-then-better c).After-head_of-v in
+    record {
+      is = goes_there c.args.m c.args.table.now (node_rank (decode c.args.st.now)) c.args.keys.now c.args.u
+          c.args.a c.args.best c.requires.2 c.head_of-v.result c.head_of-v.ensures (pos after_head_of_v) (omega arith) (c.better.ensures c.args.table.now) c.if-better.true;
+      some = inr (there after_head_of_v);
+    }
 
 pub returns : goal.returns
-returns c = let n = c in record {
-  is = not_better n.args.m n.args.table.now (node_rank (decode n.args.st.now)) n.args.keys.now n.args.u
-      n.args.a n.args.best n.requires.2 n.head_of-v.result n.head_of-v.ensures (c.better.ensures n.args.table.now) c.if-better.false;
-  some = n.requires.3;
+returns c = record {
+  is = not_better c.args.m c.args.table.now (node_rank (decode c.args.st.now)) c.args.keys.now c.args.u
+      c.args.a c.args.best c.requires.2 c.head_of-v.result c.head_of-v.ensures (c.better.ensures c.args.table.now) c.if-better.false;
+  some = c.requires.3;
 }

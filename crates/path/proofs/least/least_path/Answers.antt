@@ -36,7 +36,9 @@ pub loop-u-preserved : goal.loop-u-preserved
 loop-u-preserved c = walk_on c.requires.linked.0 c.loop-u.invariant c.loop-u-test.true c.next_portal-u.ensures
 
 pub overflow_cast-nodes-2 : goal.overflow_cast-nodes-2
-overflow_cast-nodes-2 c = omega (arith, at (goal.at.overflow_cast-nodes-2 c).At-loop-u, few (goal.at.overflow_cast-nodes-2 c).At-loop-u)
+overflow_cast-nodes-2 c =
+    let at_loop_u = (goal.at.overflow_cast-nodes-2 c).At-loop-u in
+    omega (arith, at at_loop_u, few at_loop_u)
 
 pub bounds-nodes-i-2 : goal.bounds-nodes-i-2
 bounds-nodes-i-2 c = omega (arith, (room (goal.at.bounds-nodes-i-2 c).At-loop-u).0)

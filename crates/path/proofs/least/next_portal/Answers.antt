@@ -12,15 +12,13 @@ use Rattle.path.proofs.least.next_portal.Goals as goal
 
 pub loop-a-init : goal.loop-a-init
 loop-a-init c =
-    let start = c in
     let all = ap (λ (n : ℕ). n * sector_portals) c.sectors-best.ensures in
-    (omega arith, omega arith, all ∙ next_begins start.args.m start.args.table.now (node_rank (decode start.args.st.now)) start.args.keys.now start.args.u, inl all)
+    (omega arith, omega arith, all ∙ next_begins c.args.m c.args.table.now (node_rank (decode c.args.st.now)) c.args.keys.now c.args.u, inl all)
 
 pub loop-a-preserved : goal.loop-a-preserved
 loop-a-preserved c = (omega arith, omega arith, next_suc _ _ _ _ _ _ _ c.loop-a.invariant.2 c.closer-best.ensures.is, c.closer-best.ensures.some)
 
 pub returns : goal.returns
 returns c =
-    let start = c in
-    c.loop-a.invariant.2 ∙ next_ends start.args.m start.args.table.now (node_rank (decode start.args.st.now)) start.args.keys.now start.args.u c.loop-a.a
-    (omega arith) (omega (arith, start.requires.1))
+    c.loop-a.invariant.2 ∙ next_ends c.args.m c.args.table.now (node_rank (decode c.args.st.now)) c.args.keys.now c.args.u c.loop-a.a
+    (omega arith) (omega (arith, c.requires.1))

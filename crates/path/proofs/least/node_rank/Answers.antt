@@ -12,28 +12,24 @@ use Rattle.path.proofs.least.node_rank.Goals.{After-portal_sector}
 
 sector : (c : After-portal_sector) → c.portal_sector.result < 100
 sector c =
-    let start = c in
-    omega (arith, c.portal_sector.ensures, portal_sector_lem start.requires.0 start.args.p start.requires.1, (accepted_of start.requires.0).few_sectors)
+    omega (arith, c.portal_sector.ensures, portal_sector_lem c.requires.0 c.args.p c.requires.1, (accepted_of c.requires.0).few_sectors)
 
 pub overflow_add-result-3 : goal.overflow_add-result-3
-overflow_add-result-3 c = let at = c in omega (
+overflow_add-result-3 c = omega (
   arith,
   sector (goal.at.overflow_add-result-3 c).After-portal_sector,
-  at.border_rank-first.ensures.1,
-  at.border_rank-last.ensures.1,
+  c.border_rank-first.ensures.1,
+  c.border_rank-last.ensures.1,
   c.side_number.ensures,
-  side_low at.portal_side-side.result,
+  side_low c.portal_side-side.result,
 )
 
 pub returns : goal.returns
 returns c =
-    let ranks = c in
-    let at = ranks in
-    let start = at in
-    let side = at.portal_side-side in
-    rank_is start.args.st.now start.args.p side.ensures c.portal_sector.ensures
-    (ranks.border_rank-first.ensures.0 ∙ ap (λ (i : ℕ). cell_rank (border_cell side.result i)) at.portal_run-run.ensures.begins)
-    (ranks.border_rank-last.ensures.0 ∙ ap (λ (i : ℕ). cell_rank (border_cell side.result i)) at.portal_run-run.ensures.ends) c.side_number.ensures
+    let side = c.portal_side-side in
+    rank_is c.args.st.now c.args.p side.ensures c.portal_sector.ensures
+    (c.border_rank-first.ensures.0 ∙ ap (λ (i : ℕ). cell_rank (border_cell side.result i)) c.portal_run-run.ensures.begins)
+    (c.border_rank-last.ensures.0 ∙ ap (λ (i : ℕ). cell_rank (border_cell side.result i)) c.portal_run-run.ensures.ends) c.side_number.ensures
 
 pub overflow_mul-result : goal.overflow_mul-result
 overflow_mul-result c = omega (arith, sector c)

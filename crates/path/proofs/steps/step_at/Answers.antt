@@ -22,15 +22,10 @@ step_is h p e s g w = rw (s, ← e, g, w)
 
 pub sector_at-sector-requires : goal.sector_at-sector-requires
 sector_at-sector-requires c =
-    let start = c in
-    let few = accepted_of start.requires.0 in
-    (few.some_rows, omega (arith, c.portal_sector.ensures, portal_sector_lem start.requires.0 start.args.p start.requires.1, few.few_sectors))
+    let few = accepted_of c.requires.0 in
+    (few.some_rows, omega (arith, c.portal_sector.ensures, portal_sector_lem c.requires.0 c.args.p c.requires.1, few.few_sectors))
 
 pub returns : goal.returns
 returns c =
-    let window = c in
-    let mid = window in
-    let sector = mid in
-    let start = sector in
-    step_is (decode start.args.st.now) start.args.p (measures_are start.requires.0) (rw sector.portal_sector.ensures at sector.sector_at-sector.ensures)
-    (c.byte.ensures ∙ mid.midpoint-goal.ensures.0) window.window_of_portal-w.ensures
+    step_is (decode c.args.st.now) c.args.p (measures_are c.requires.0) (rw c.portal_sector.ensures at c.sector_at-sector.ensures)
+    (c.byte.ensures ∙ c.midpoint-goal.ensures.0) c.window_of_portal-w.ensures

@@ -42,27 +42,23 @@ pub loop-i-init : goal.loop-i-init
 loop-i-init c = search (rules, stepped_none)
 
 pub step_at-requires : goal.step_at-requires
-step_at-requires c = let at = c in (at.requires.0, portal_at (goal.at.step_at-requires c).At-loop-i _ (omega arith))
+step_at-requires c = (c.requires.0, portal_at (goal.at.step_at-requires c).At-loop-i _ (omega arith))
 
 pub loop-i-preserved : goal.loop-i-preserved
 loop-i-preserved c =
-    let put = c in
-    let at = put in
-    stepped_turn at.loop-i.invariant at.requires.3 (omega arith) (put.step_at.ensures ∙ ap (step_at (decode at.args.st.now)) (sym (in_path (goal.at.loop-i-preserved c).At-loop-i (2 * at.loop-i.i) (omega arith))))
-    put.put_step.ensures
+    stepped_turn c.loop-i.invariant c.requires.3 (omega arith) (c.step_at.ensures ∙ ap (step_at (decode c.args.st.now)) (sym (in_path (goal.at.loop-i-preserved c).At-loop-i (2 * c.loop-i.i) (omega arith))))
+    c.put_step.ensures
 
 pub write_last-requires : goal.write_last-requires
 write_last-requires c =
-    let at = c in
-    let low : c.portal_sector.result < 256 = rw c.portal_sector.ensures (sector_low (goal.at.write_last-requires c).At-loop-i _ (omega (arith, some (goal.at.write_last-requires c).At-loop-i))) in
-    ((accepted_of at.requires.0).some_rows, low, simp (length-take, length-drop) (omega (arith, at.loop-i.invariant.same, at.requires.3)))
+    let at_loop_i = (goal.at.write_last-requires c).At-loop-i in
+    let low : c.portal_sector.result < 256 = rw c.portal_sector.ensures (sector_low at_loop_i _ (omega (arith, some at_loop_i))) in
+    ((accepted_of c.requires.0).some_rows, low, simp (length-take, length-drop) (omega (arith, c.loop-i.invariant.same, c.requires.3)))
 
 pub returns : goal.returns
 returns c =
-    let last = c in
-    let portal = last in
-    let at = portal in
-    let n = at.args.n in
+    let at_loop_i = (goal.at.returns c).At-loop-i in
+    let n = c.args.n in
     let sector =
-    ap₂ (λ (m : Measures) (p : ℕ). last_step (sector_at m (portal_sector p)) (place_of at.args.goal)) (sym (measures_are at.requires.0)) (sym (in_path (goal.at.returns c).At-loop-i (n - 1) (omega (arith, some (goal.at.returns c).At-loop-i)))) in
-    stepped_end at.loop-i.invariant at.requires.3 at.args.goal n (some (goal.at.returns c).At-loop-i) (long (goal.at.returns c).At-loop-i) refl (omega arith) sector (rw portal.portal_sector.ensures at last.write_last.ensures)
+    ap₂ (λ (m : Measures) (p : ℕ). last_step (sector_at m (portal_sector p)) (place_of c.args.goal)) (sym (measures_are c.requires.0)) (sym (in_path at_loop_i (n - 1) (omega (arith, some at_loop_i)))) in
+    stepped_end c.loop-i.invariant c.requires.3 c.args.goal n (some at_loop_i) (long at_loop_i) refl (omega arith) sector (rw c.portal_sector.ensures c c.write_last.ensures)

@@ -10,14 +10,11 @@ use Rattle.route.proofs.find.find_path.Goals as goal
 pub returns-then-moves : goal.returns-then-moves
 returns-then-moves c =
     let call = c.through_portals in
-    let told = c in
-    let e = apart_found _ _ _ told.moves_to-moves.ensures c.if-moves.true in
-    record { answer = call.ensures.answer ∙ ap found_answer e; steps = call.ensures.steps ∙ ap (λ (x : Found). found_into x told.args.list.now) e }
+    let e = apart_found _ _ _ c.moves_to-moves.ensures c.if-moves.true in
+    record { answer = call.ensures.answer ∙ ap found_answer e; steps = call.ensures.steps ∙ ap (λ (x : Found). found_into x c.args.list.now) e }
 
 pub returns : goal.returns
 returns c =
     let call = c.one_step in
-    let told = c in
-    let start = told in
-    let e = ap (λ (m : Measures). last_route m start.args.goal told.moves_to-moves.result) (sym (measures_are start.requires.0)) ∙ joined_found _ _ _ told.moves_to-moves.ensures (omega arith) in
-    record { answer = call.ensures.answer ∙ ap found_answer e; steps = call.ensures.steps ∙ ap (λ (x : Found). found_into x start.args.list.now) e }
+    let e = ap (λ (m : Measures). last_route m c.args.goal c.moves_to-moves.result) (sym (measures_are c.requires.0)) ∙ joined_found _ _ _ c.moves_to-moves.ensures (omega arith) in
+    record { answer = call.ensures.answer ∙ ap found_answer e; steps = call.ensures.steps ∙ ap (λ (x : Found). found_into x c.args.list.now) e }

@@ -46,50 +46,44 @@ chosen : (c : After-choose_pair-k) → c.choose_pair-k.result < sector_pairs →
 chosen c l = chosen_some (decode c.args.st.now) c.args.source c.args.goal (fits_of c.requires.0) (foremost c) l
 
 -- the route over it, with leg and last moves as they were read
-found_is : (c : After-choose_pair-k) → c.choose_pair-k.result < sector_pairs → let s = c in let k = c.choose_pair-k.result in
-    through_portals (decode s.args.st.now) (portal_graph (decode s.args.st.now)) s.args.source s.args.goal
-    ≡ pair_route (decode s.args.st.now) s.args.goal (place_portal (sector_of s.args.source) (k / sector_portals)) (place_portal (sector_of s.args.goal) (k % sector_portals))
+found_is : (c : After-choose_pair-k) → c.choose_pair-k.result < sector_pairs → let k = c.choose_pair-k.result in
+    through_portals (decode c.args.st.now) (portal_graph (decode c.args.st.now)) c.args.source c.args.goal
+    ≡ pair_route (decode c.args.st.now) c.args.goal (place_portal (sector_of c.args.source) (k / sector_portals)) (place_portal (sector_of c.args.goal) (k % sector_portals))
     (get_or c.portal_moves.new.near (k / sector_portals) 0)
     (get_or c.portal_moves-2.new.near (k % sector_portals) 0)
 found_is c l =
-    let s = c in
+    let c = c in
     let k = c.choose_pair-k.result in
-    pair_found (decode s.args.st.now) (fits_of s.requires.0) s.args.source s.args.goal (chosen c l)
-    ∙ same_route (decode s.args.st.now) s.args.goal _ _ (k / sector_portals) (k % sector_portals) (sym (legs_are c)) (sym (lasts_are c))
+    pair_found (decode c.args.st.now) (fits_of c.requires.0) c.args.source c.args.goal (chosen c l)
+    ∙ same_route (decode c.args.st.now) c.args.goal _ _ (k / sector_portals) (k % sector_portals) (sym (legs_are c)) (sym (lasts_are c))
 
 pub choose_pair-k-requires : goal.choose_pair-k-requires
 choose_pair-k-requires c =
-    let s = c in record {
+    let after_fill_edges = (goal.at.choose_pair-k-requires c).After-fill_edges in
+    record {
       searched = (
-        searched_of (linked (goal.at.choose_pair-k-requires c).After-fill_edges),
-        omega (arith, s.requires.1),
-        omega (arith, s.requires.2),
+        searched_of (linked after_fill_edges),
+        omega (arith, c.requires.1),
+        omega (arith, c.requires.2),
         c.portal_moves.auto.near,
         c.portal_moves-2.auto.near,
       );
-      both_ways = searched_both_ways (linked (goal.at.choose_pair-k-requires c).After-fill_edges);
+      both_ways = searched_both_ways (linked after_fill_edges);
     }
 
 pub returns-then-k-ge-PAIRS : goal.returns-then-k-ge-PAIRS
 returns-then-k-ge-PAIRS c =
-    let k = c in
-    let s = k in
-    let both = none_found _ _ _ _ (chosen_none (decode c.args.st.now) s.args.source s.args.goal (fits_of s.requires.0) (foremost (goal.at.returns-then-k-ge-PAIRS c).After-choose_pair-k) c.if-k-ge-PAIRS.true) in
+    let both = none_found _ _ _ _ (chosen_none (decode c.args.st.now) c.args.source c.args.goal (fits_of c.requires.0) (foremost (goal.at.returns-then-k-ge-PAIRS c).After-choose_pair-k) c.if-k-ge-PAIRS.true) in
     record { answer = both.0; steps = both.1 }
 
 pub through_pair-requires : goal.through_pair-requires
-through_pair-requires c =
-    let l = c in
-    let k = l in
-    let s = k in (
-      record { opened = s.requires.0; filled = k.fill_edges.ensures; numbers = k.choose_pair-k.auto.keys ∙ s.requires.4 },
-      pair_paired (decode c.args.st.now) (fits_of s.requires.0) s.args.source s.args.goal (chosen (goal.at.through_pair-requires c).After-choose_pair-k l.if-k-ge-PAIRS.false) (omega (arith, s.requires.2, ap sectors (measures_are s.requires.0))),
-    )
+through_pair-requires c = (
+  record { opened = c.requires.0; filled = c.fill_edges.ensures; numbers = c.choose_pair-k.auto.keys ∙ c.requires.4 },
+  pair_paired (decode c.args.st.now) (fits_of c.requires.0) c.args.source c.args.goal (chosen (goal.at.through_pair-requires c).After-choose_pair-k c.if-k-ge-PAIRS.false) (omega (arith, c.requires.2, ap sectors (measures_are c.requires.0))),
+)
 
 pub returns : goal.returns
 returns c =
-    let l = c in
     let call = c.through_pair in
-    let k = l in
-    let f = found_is (goal.at.returns c).After-choose_pair-k l.if-k-ge-PAIRS.false in
-    record { answer = call.ensures.answer ∙ ap found_answer (sym f); steps = call.ensures.steps ∙ ap (λ (x : Found). found_into x k.args.list.now) (sym f) }
+    let f = found_is (goal.at.returns c).After-choose_pair-k c.if-k-ge-PAIRS.false in
+    record { answer = call.ensures.answer ∙ ap found_answer (sym f); steps = call.ensures.steps ∙ ap (λ (x : Found). found_into x c.args.list.now) (sym f) }

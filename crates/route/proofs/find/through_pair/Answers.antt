@@ -40,47 +40,35 @@ few_portals l = let s = l in (
 )
 
 pub keys_to-requires : goal.keys_to-requires
-keys_to-requires c = let start = c in
-    record { searched = (searched_of start.requires.0, omega (arith, start.requires.1.end, same_sectors (goal.at.keys_to-requires c).Start)); both_ways = searched_both_ways start.requires.0 }
+keys_to-requires c = record { searched = (searched_of c.requires.0, omega (arith, c.requires.1.end, same_sectors (goal.at.keys_to-requires c).Start)); both_ways = searched_both_ways c.requires.0 }
 
 pub least_path-n-requires : goal.least_path-n-requires
 least_path-n-requires c =
-    let k = c in
-    let s = k in
-    record { linked = (linked (goal.at.least_path-n-requires c).After-keys_to, start_low (goal.at.least_path-n-requires c).Start, rw (keys_are (goal.at.least_path-n-requires c).After-keys_to) s.requires.1.linked, omega (arith, (accepted_of s.requires.0.opened).few_sectors)); by_index = (s.args.e, omega (arith, s.requires.1.end, same_sectors (goal.at.least_path-n-requires c).Start), keys_are (goal.at.least_path-n-requires c).After-keys_to) }
+    let start = (goal.at.least_path-n-requires c).Start in
+    let after_keys_to = (goal.at.least_path-n-requires c).After-keys_to in
+    record { linked = (linked after_keys_to, start_low start, rw (keys_are after_keys_to) c.requires.1.linked, omega (arith, (accepted_of c.requires.0.opened).few_sectors)); by_index = (c.args.e, omega (arith, c.requires.1.end, same_sectors start), keys_are after_keys_to) }
 
 pub offset_bounds-keys-p : goal.offset_bounds-keys-p
-offset_bounds-keys-p c = let s = c in omega (arith, start_low (goal.at.offset_bounds-keys-p c).Start, (accepted_of s.requires.0.opened).few_sectors)
+offset_bounds-keys-p c = omega (arith, start_low (goal.at.offset_bounds-keys-p c).Start, (accepted_of c.requires.0.opened).few_sectors)
 
 pub bounds-keys-p : goal.bounds-keys-p
-bounds-keys-p c = let k = c in omega (arith, start_low (goal.at.bounds-keys-p c).Start, (linked (goal.at.bounds-keys-p c).After-keys_to).numbers)
+bounds-keys-p c = omega (arith, start_low (goal.at.bounds-keys-p c).Start, (linked (goal.at.bounds-keys-p c).After-keys_to).numbers)
 
 pub returns-then-list-steps : goal.returns-then-list-steps
 returns-then-list-steps c =
-    let counted = c in
-    let l = counted in
-    let s = l in
-    let both = pair_no_room _ (fits (goal.at.returns-then-list-steps c).Start) s.requires.1 _ _ _ (keys_are (goal.at.returns-then-list-steps c).After-keys_to) l.least_path-n.ensures.count l.least_path-n.ensures.portals _ _ _ _ counted.step_count-steps.ensures c.if-list-steps.true in
+    let both = pair_no_room _ (fits (goal.at.returns-then-list-steps c).Start) c.requires.1 _ _ _ (keys_are (goal.at.returns-then-list-steps c).After-keys_to) c.least_path-n.ensures.count c.least_path-n.ensures.portals _ _ _ _ c.step_count-steps.ensures c.if-list-steps.true in
     record { answer = both.0; steps = both.1 }
 
 pub write_steps-requires : goal.write_steps-requires
-write_steps-requires c =
-    let room = c in
-    let counted = room in
-    let l = counted in
-    let s = l in (
-      s.requires.0.opened,
-      (few_portals (goal.at.write_steps-requires c).After-least_path-n).0,
-      taken_path _ (fits (goal.at.write_steps-requires c).Start) s.requires.1 _ _ _ (keys_are (goal.at.write_steps-requires c).After-keys_to) l.least_path-n.ensures.count l.least_path-n.ensures.portals,
-      omega (arith, counted.step_count-steps.ensures, room.if-list-steps.false),
-    )
+write_steps-requires c = (
+  c.requires.0.opened,
+  (few_portals (goal.at.write_steps-requires c).After-least_path-n).0,
+  taken_path _ (fits (goal.at.write_steps-requires c).Start) c.requires.1 _ _ _ (keys_are (goal.at.write_steps-requires c).After-keys_to) c.least_path-n.ensures.count c.least_path-n.ensures.portals,
+  omega (arith, c.step_count-steps.ensures, c.if-list-steps.false),
+)
 
 pub returns : goal.returns
 returns c =
-    let room = c in
-    let counted = room in
-    let l = counted in
-    let s = l in
-    let both = pair_written _ (fits (goal.at.returns c).Start) s.requires.1 _ _ _ (keys_are (goal.at.returns c).After-keys_to) l.least_path-n.ensures.count l.least_path-n.ensures.portals _ _ _ _ counted.step_count-steps.ensures
-    room.if-list-steps.false c.write_steps.ensures in
+    let both = pair_written _ (fits (goal.at.returns c).Start) c.requires.1 _ _ _ (keys_are (goal.at.returns c).After-keys_to) c.least_path-n.ensures.count c.least_path-n.ensures.portals _ _ _ _ c.step_count-steps.ensures
+    c.if-list-steps.false c.write_steps.ensures in
     record { answer = both.0; steps = both.1 }

@@ -8,11 +8,8 @@ use Rattle.search.proofs.keys.search.Goals as goal
 
 pub returns : goal.returns
 returns c =
-    let call = c in
-    let b = call in
-    let start = b in
-    let given = start.requires.searched in
+    let given = c.requires.searched in
     let sound = given.0.graph.sound in
-    let began = begins given.0.graph given.1 (omega arith) b.begin.ensures.costs b.begin.ensures.waits in
-    let kept = keeps_itself b.begin.new.keys b.begin.new.wait call.settle.new.keys call.settle.new.wait sound call.settle.ensures.kept _ _ began in
-    keys_found sound start.requires.both_ways given.1 (waiting_over sound kept (λ v l. call.settle.ensures.over v (omega (arith, b.begin.auto.keys, given.0.graph.numbers))))
+    let began = begins given.0.graph given.1 (omega arith) c.begin.ensures.costs c.begin.ensures.waits in
+    let kept = keeps_itself c.begin.new.keys c.begin.new.wait c.settle.new.keys c.settle.new.wait sound c.settle.ensures.kept _ _ began in
+    keys_found sound c.requires.both_ways given.1 (waiting_over sound kept (λ v l. c.settle.ensures.over v (omega (arith, c.begin.auto.keys, given.0.graph.numbers))))

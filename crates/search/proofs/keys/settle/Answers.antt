@@ -4,12 +4,10 @@ use Rattle.search.proofs.keys.settle.Goals as goal
 
 pub loop-t-preserved : goal.loop-t-preserved
 loop-t-preserved c =
-    let call = c in
-    let d = call in
-    let inv = d.loop-t.invariant in (
-      d.drain.auto.keys ∙ inv.0,
-      d.drain.auto.wait ∙ inv.1,
-      call.collect-t.auto.queue ∙ d.drain.auto.queue ∙ inv.2,
-      call.collect-t.ensures,
-      λ g o ext s top w. d.drain.ensures.kept g o ext s top (inv.4 g o ext s top w),
+    let inv = c.loop-t.invariant in (
+      c.drain.auto.keys ∙ inv.0,
+      c.drain.auto.wait ∙ inv.1,
+      c.collect-t.auto.queue ∙ c.drain.auto.queue ∙ inv.2,
+      c.collect-t.ensures,
+      λ g o ext s top w. c.drain.ensures.kept g o ext s top (inv.4 g o ext s top w),
     )

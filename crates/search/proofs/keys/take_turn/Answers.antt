@@ -4,13 +4,10 @@ use Rattle.search.proofs.keys.take_turn.Goals as goal
 
 pub returns : goal.returns
 returns c =
-    let call = c in
-    let asked = call in
-    let start = asked in
-    let took = call.offer.ensures.taken in
+    let took = c.offer.ensures.taken in
     record {
       served =
-          rw (took.0, took.1) (served_own start.args.keys.now start.args.wait.now start.args.u start.requires.searched start.requires.low
-          (asked.offers_inside.ensures asked.if-offers_inside.false));
-      room = call.offer.ensures.room;
+          rw (took.0, took.1) (served_own c.args.keys.now c.args.wait.now c.args.u c.requires.searched c.requires.low
+          (c.offers_inside.ensures c.if-offers_inside.false));
+      room = c.offer.ensures.room;
     }

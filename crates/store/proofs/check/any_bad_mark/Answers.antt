@@ -5,11 +5,8 @@ use Rattle.store.proofs.check.any_bad_mark.Goals as goal
 
 pub returns-then-any_large : goal.returns-then-any_large
 returns-then-any_large c =
-    let s = c in
-    rw (bad_any s.args.m (marks_in s.args.m s.args.st.now) s.requires.0, ← c.any_large.ensures, c.if-any_large.true)
+    rw (bad_any c.args.m (marks_in c.args.m c.args.st.now) c.requires.0, ← c.any_large.ensures, c.if-any_large.true)
 
 pub returns : goal.returns
 returns c =
-    let large = c in
-    let s = large in
-    rw (bad_any s.args.m (marks_in s.args.m s.args.st.now) s.requires.0, ← large.any_large.ensures, large.if-any_large.false) c.any_end.ensures
+    rw (bad_any c.args.m (marks_in c.args.m c.args.st.now) c.requires.0, ← c.any_large.ensures, c.if-any_large.false) c.any_end.ensures

@@ -6,18 +6,17 @@ use Rattle.store.proofs.check.end_line.Goals as goal
 
 pub returns-in-North : goal.returns-in-North
 unfolding end_line
-returns-in-North c = let s = c in rw c.in-North.is (line_is s.args.m North (omega arith) (omega arith) (omega arith))
+returns-in-North c = rw c.in-North.is (line_is c.args.m North (omega arith) (omega arith) (omega arith))
 
 pub returns-in-East : goal.returns-in-East
 unfolding end_line
 returns-in-East c =
-    let s = c in
-    rw (c.in-East.is, s.wide-columns.ensures.0, c.wide-rows.ensures.0) (line_is s.args.m East (omega arith) (omega arith) (omega arith))
+    rw (c.in-East.is, c.wide-columns.ensures.0, c.wide-rows.ensures.0) (line_is c.args.m East (omega arith) (omega arith) (omega arith))
 
 pub returns-in-South : goal.returns-in-South
 unfolding end_line
-returns-in-South c = let s = c in rw c.in-South.is (line_is s.args.m South (omega arith) (omega arith) (omega arith))
+returns-in-South c = rw c.in-South.is (line_is c.args.m South (omega arith) (omega arith) (omega arith))
 
 pub returns-in-West : goal.returns-in-West
 unfolding end_line
-returns-in-West c = let s = c in rw c.in-West.is (line_is s.args.m West (omega arith) (omega arith) (omega arith))
+returns-in-West c = rw c.in-West.is (line_is c.args.m West (omega arith) (omega arith) (omega arith))

@@ -7,6 +7,5 @@ use Rattle.store.proofs.layout.sector_part.Goals as goal
 
 pub returns : goal.returns
 returns c =
-    let s = c in
-    let start = 4 + c.cells.result + s.args.s * 100 in
-    (sector_is s.args.m _ s.args.s {b = start} {e = start + 100} (omega arith) (omega arith) s.requires.1 s.requires.2, simp (length-take, length-drop) (omega arith))
+    let start = 4 + c.cells.result + c.args.s * 100 in
+    (sector_is c.args.m _ c.args.s {b = start} {e = start + 100} (omega arith) (omega arith) c.requires.1 c.requires.2, simp (length-take, length-drop) (omega arith))

@@ -4,9 +4,5 @@ use Rattle.store.proofs.layout.write_hall.Goals as goal
 
 pub returns : goal.returns
 returns c =
-    let marks = c in
-    let costs = marks in
-    let base = costs in
-    let opening = base in
-    written_by _ _ _ _ _ opening.requires.0 opening.put_measures.ensures base.put_part.ensures costs.put_part-2.ensures
-    marks.put_marks.ensures
+    written_by _ _ _ _ _ c.requires.0 c.put_measures.ensures c.put_part.ensures c.put_part-2.ensures
+    c.put_marks.ensures

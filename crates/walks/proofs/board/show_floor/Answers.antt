@@ -5,10 +5,8 @@ use Rattle.walks.proofs.board.show_floor.Goals as goal
 
 pub loop-y-init : goal.loop-y-init
 loop-y-init c =
-    let start = c in
-    (search rules, floor_start start.requires.0 start.requires.1)
+    (search rules, floor_start c.requires.0 c.requires.1)
 
 pub returns : goal.returns
 returns c =
-    let start = c in
-    floor_end start.requires.0 _ (search rules) c.loop-y.invariant.1
+    floor_end c.requires.0 _ (search rules) c.loop-y.invariant.1

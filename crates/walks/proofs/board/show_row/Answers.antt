@@ -6,5 +6,4 @@ use Rattle.walks.proofs.board.show_row.Goals as goal
 
 pub returns : goal.returns
 returns c =
-    let start = c in
-    row_end start.requires.0 start.args.y (search rules) (showing_at c.loop-c.invariant.1 (omega arith))
+    row_end c.requires.0 c.args.y (search rules) (showing_at c.loop-c.invariant.1 (omega arith))

@@ -4,7 +4,5 @@ use Rattle.walks.proofs.board.show_ten.Goals as goal
 
 pub returns : goal.returns
 returns c =
-    let p = c in
-    let w = p in
-    let a = w.args in
-    row_more w.requires.0 a.y a.c w.requires.1 w.requires.2 w.requires.3 (rw w.wide.ensures.0 at p.copy_part.ensures)
+    let a = c.args in
+    row_more c.requires.0 a.y a.c c.requires.1 c.requires.2 c.requires.3 (rw c.wide.ensures.0 at c.copy_part.ensures)

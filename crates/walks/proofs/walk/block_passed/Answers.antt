@@ -8,18 +8,15 @@ use Rattle.walks.proofs.walk.block_passed.Goals as goal
 use Rattle.walks.proofs.walk.block_passed.Goals.{After-turned-y}
 
 -- the step that a turn makes
-turn : (c : After-turned-y) → let l = c in let a = l.args in Turned a.i a.d (l.loop-k.k + 1) c.turned-x.result c.turned-y.result
+turn : (c : After-turned-y) → let a = c.args in Turned a.i a.d (c.loop-k.k + 1) c.turned-x.result c.turned-y.result
 turn c =
-    let l = c in
-    turned_more (search rules) (search rules) l.loop-k.invariant.2 (rw c.eastward.ensures at c.turned-x.ensures.0) (rw c.southward.ensures at c.turned-y.ensures.0)
+    let c = c in
+    turned_more (search rules) (search rules) c.loop-k.invariant.2 (rw c.eastward.ensures at c.turned-x.ensures.0) (rw c.southward.ensures at c.turned-y.ensures.0)
 
 pub loop-k-init : goal.loop-k-init
 loop-k-init c = (search (rules, counting), search (rules, counting), turned_none _ _ (search rules))
 
 pub loop-k-preserved : goal.loop-k-preserved
 loop-k-preserved c =
-    let b = c in
-    let t = b in
-    let l = t in
     let h = turn (goal.at.loop-k-preserved c).After-turned-y in
-    (ran_turn l.loop-k.invariant.0 (search rules) (b.block_cell.ensures.list ∙ step_is l.loop-k.k h _ _) (search rules), ran_turn l.loop-k.invariant.1 (search rules) (b.block_cell.ensures.place ∙ spot_is l.loop-k.k h _ _) (search rules), h)
+    (ran_turn c.loop-k.invariant.0 (search rules) (c.block_cell.ensures.list ∙ step_is c.loop-k.k h _ _) (search rules), ran_turn c.loop-k.invariant.1 (search rules) (c.block_cell.ensures.place ∙ spot_is c.loop-k.k h _ _) (search rules), h)

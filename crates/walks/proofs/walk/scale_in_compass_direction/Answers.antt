@@ -34,22 +34,19 @@ walk_line-w-requires c =
 
 pub block_passed-requires : goal.block_passed-requires
 block_passed-requires c =
-    let w = c in
-    let p = w.requires.0 in
+    let p = c.requires.0 in
     (omega (arith, p.costs.long, p.on), shows_room p, search rules, few (goal.at.block_passed-requires c).After-walk_line-w)
 
 pub returns-then-w : goal.returns-then-w
 returns-then-w c =
-    let b = c in
-    let t = b in
-    let w = t in
-    let a = w.args in
-    let p = w.requires.0 in
-    let same = run_shown {i = a.i} a.d p w.requires.1 w.walk_line-w.result.passed (few (goal.at.returns-then-w c).After-walk_line-w) in
-    record { list = b.block_passed.ensures.list ∙ walk_met a.m _ a.s a.i a.d (passed (goal.at.returns-then-w c).After-walk_line-w) (sought (goal.at.returns-then-w c).After-walk_line-w).test t.if-w.true; shown = shows_again p (search rules) (b.block_passed.ensures.places ∙ same ∙ ap (board_of a.m) (sym b.block_passed.ensures.list)) }
+    let after_walk_line_w = (goal.at.returns-then-w c).After-walk_line-w in
+    let a = c.args in
+    let p = c.requires.0 in
+    let same = run_shown {i = a.i} a.d p c.requires.1 c.walk_line-w.result.passed (few after_walk_line_w) in
+    record { list = c.block_passed.ensures.list ∙ walk_met a.m _ a.s a.i a.d (passed after_walk_line_w) (sought after_walk_line_w).test c.if-w.true; shown = shows_again p (search rules) (c.block_passed.ensures.places ∙ same ∙ ap (board_of a.m) (sym c.block_passed.ensures.list)) }
 
 pub returns-else-w : goal.returns-else-w
 returns-else-w c =
-    let w = c in
-    let a = w.args in
-    record { list = walk_clear a.m _ a.s a.i a.d (passed (goal.at.returns-else-w c).After-walk_line-w) (sought (goal.at.returns-else-w c).After-walk_line-w).test c.if-w.false; shown = w.requires.0 }
+    let after_walk_line_w = (goal.at.returns-else-w c).After-walk_line-w in
+    let a = c.args in
+    record { list = walk_clear a.m _ a.s a.i a.d (passed after_walk_line_w) (sought after_walk_line_w).test c.if-w.false; shown = c.requires.0 }
