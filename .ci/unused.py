@@ -53,6 +53,7 @@ KEPT = {
     "laws/specs/FirstLeast.antt:foremost_within": UNCITED,
     "laws/specs/Region.antt:header_set": UNCITED,
     "laws/specs/Region.antt:part_put": UNCITED,
+    "laws/specs/Region.antt:copied": UNCITED,
     "laws/specs/Table.antt:tabled_at": UNCITED,
     "laws/specs/Table.antt:tabled_fill": UNCITED,
     "laws/specs/Turns.antt:turned_none": UNCITED,
