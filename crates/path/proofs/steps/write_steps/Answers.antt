@@ -61,4 +61,4 @@ returns c =
     let n = c.args.n in
     let sector =
     ap₂ (λ (m : Measures) (p : ℕ). last_step (sector_at m (portal_sector p)) (place_of c.args.goal)) (sym (measures_are c.requires.0)) (sym (in_path at_loop_i (n - 1) (omega (arith, some at_loop_i)))) in
-    stepped_end c.loop-i.invariant c.requires.3 c.args.goal n (some at_loop_i) (long at_loop_i) refl (omega arith) sector (rw c.portal_sector.ensures c c.write_last.ensures)
+    stepped_end c.loop-i.invariant c.requires.3 c.args.goal n (some at_loop_i) (long at_loop_i) refl (omega arith) sector (rw c.portal_sector.ensures at c.write_last.ensures)
