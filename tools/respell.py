@@ -21,6 +21,7 @@ OLD = re.compile(r"[a-z0-9][A-Z]|[A-Za-z0-9]-[A-Za-z0-9]")
 
 
 def snake(name):
+    name = re.sub(r"^getD(?=-)", "get_or", name)
     if name[0].isupper():
         return name.replace("-", "_")
     name = re.sub(r"([a-z0-9])([A-Z])", lambda m: m[1] + "_" + m[2].lower(), name)

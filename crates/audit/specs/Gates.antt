@@ -15,7 +15,7 @@ use Rattle.model.specs.WindowRuns.{Run, window_run, window_on, few_windows, open
 use Rattle.model.specs.Halls.{Hall, mark_at}
 use Rattle.model.specs.Portals.{portal_at, portal_sector, portal_side, portal_window, is_portal, midpoint, mid_cell, facing}
 use Rattle.model.specs.PortalNumbers.{numbered, portal_is, window_portal}
-use Rattle.model.specs.PortalCrossings.{cell_at}
+use Rattle.model.specs.PortalCrossings.{cell_at_lem}
 use Rattle.model.specs.PortalEdges.{Edge, outer, inner, facing_at}
 use Rattle.audit.specs.Borders.{share_border}
 use Rattle.audit.specs.Crossings.{floor_of, cross_leaving}
@@ -96,8 +96,8 @@ module _ (h : Hall) (fresh : Fresh h) where
         from = from'.0;
         to_low = to'.1;
         from_low = from'.1;
-        to_is = rw (cell_at h s k j low) to'.2;
-        from_is = rw (cell_at h t (opposite k) j low) from'.2;
+        to_is = rw (cell_at_lem h s k j low) to'.2;
+        from_is = rw (cell_at_lem h t (opposite k) j low) from'.2;
       }
     where
       t : ℕ
@@ -139,7 +139,7 @@ module _ (h : Hall) (fresh : Fresh h) where
   unfolding mid_cell midpoint facing
   facing_cross p e =
       let a = portal_is h p e in
-      rw (cell_at h (beyond h.measures (portal_sector p) (portal_side p)) (opposite (portal_side p)) (portal_window p) (omega arith))
+      rw (cell_at_lem h (beyond h.measures (portal_sector p) (portal_side p)) (opposite (portal_side p)) (portal_window p) (omega arith))
       (mid_cross (portal_sector p) a.inside (portal_side p) (portal_beyond h fresh p e) (portal_window p) a.among)
 
   pub edge_real : {p q w : ℕ} → Edge h p q w → Inside floor (mid_cell h p) (mid_cell h q) w ⊎ ((w ≡ 1) × floor.Cross (mid_cell h p) (mid_cell h q))

@@ -12,7 +12,7 @@ use Rattle.laws.specs.Keys.{Journey, arrived, onward, Before, cheaper, shorter, 
 use Rattle.laws.specs.Members.{In}
 use Rattle.laws.specs.Winner.{winner}
 use Rattle.laws.specs.Floor.{Inside}
-use Rattle.laws.specs.Detour.{Path, at, along, Lengths, Pair, leg_of, run_of_lem, Chosen, Promise, promise, Winning, chosen}
+use Rattle.laws.specs.Detour.{Path, at, along, Lengths, Pair, leg_of, run_by, Chosen, Promise, promise, Winning, chosen}
 use Rattle.model.specs.declared.RouteStep.{RouteStep}
 use Rattle.model.specs.Moves.{moves_to, joined}
 use Rattle.model.specs.Halls.{Hall}
@@ -120,8 +120,8 @@ module _ (h : Hall) (fresh : Fresh h) where
   }
 
   -- ---- the candidates of a route
-  end_of_lem : choice.Pair → ℕ
-  end_of_lem z = z.end.portal
+  end_portal : choice.Pair → ℕ
+  end_portal z = z.end.portal
 
   leg_by : ℕ → choice.Pair → ℕ
   leg_by source z = moves_to h.scaled source (mid_cell h z.start)
@@ -133,12 +133,12 @@ module _ (h : Hall) (fresh : Fresh h) where
   module _ (source goal : ℕ) where
     abbrev Made : choice.Pair → Type 0
     Made z =
-        Pair (portals h fresh) lengths source goal z.start (end_of_lem z)
+        Pair (portals h fresh) lengths source goal z.start (end_portal z)
         × (leg_by source z ≡ leg_of (portals h fresh) lengths source z.start)
-        × (run_of z ≡ run_of_lem (portals h fresh) lengths goal z.start (end_of_lem z))
+        × (run_of z ≡ run_by (portals h fresh) lengths goal z.start (end_portal z))
 
     candidate_is : (z : choice.Pair) → In z (candidates source goal) → Made z
-    unfolding end_of_lem leg_by run_of end_of lengths cost_by
+    unfolding end_portal leg_by run_of end_of lengths cost_by
     candidate_is z i =
         let x = pair_is h g source goal i in
         let c = x.2 in
@@ -154,7 +154,7 @@ module _ (h : Hall) (fresh : Fresh h) where
           refl,
         )
 
-    candidate_has : (p e : ℕ) → Pair (portals h fresh) lengths source goal p e → (z : choice.Pair) × In z (candidates source goal) × (run_of z ≤ run_of_lem (portals h fresh) lengths goal p e)
+    candidate_has : (p e : ℕ) → Pair (portals h fresh) lengths source goal p e → (z : choice.Pair) × In z (candidates source goal) × (run_of z ≤ run_by (portals h fresh) lengths goal p e)
     unfolding run_of end_of lengths cost_by
     candidate_has p e w =
         let c : Candidate h g source goal p e =
@@ -162,7 +162,7 @@ module _ (h : Hall) (fresh : Fresh h) where
         (pair_of h g source goal p e, is_pair h g source goal (fits h fresh) c, omega arith)
 
     chosen_route : Chosen (portals h fresh) lengths source goal (Winning (leg_by source) run_of (candidates source goal))
-    chosen_route = chosen (portals h fresh) lengths source goal (λ z. z.start) end_of_lem (leg_by source) run_of (candidates source goal) candidate_is candidate_has
+    chosen_route = chosen (portals h fresh) lengths source goal (λ z. z.start) end_portal (leg_by source) run_of (candidates source goal) candidate_is candidate_has
 
     -- the route call finds a route of this leg and run
     abbrev pub Gives : ℕ → ℕ → Type 0

@@ -31,7 +31,7 @@ few_routed zero (suc m) room found fits = omega arith
 few_routed zero zero room (route steps leg run) fits = fits refl
 few_routed zero zero room none fits = omega arith
 
--- ---- with a list of 6,006 bytes; `pair_line` is for the proof of a caller that prints the line
+-- ---- with a list of 6,006 bytes; `pair_line_rules` is for the proof of a caller that prints the line
 module _ {answer : Routed} (st : List ℕ) (source goal : ℕ) (list : List ℕ) (answered : answer ≡ route_answer st source goal (length list / 6)) (size : length list ≡ 6006) where
   room : length list / 6 ≡ 1001
   room = omega arith
@@ -62,4 +62,4 @@ module _ {answer : Routed} (st : List ℕ) (source goal : ℕ) (list : List ℕ)
         → ys ≡ pair_text st source goal (route_of (decode st) source goal) ++ drop (length (pair_text st source goal (route_of (decode st) source goal))) xs
     pair_written xs e = e ∙ ap (λ t. t ++ drop (length t) xs) line_of_pair
 
-pub ruleset pair_line = (pair_room, pair_held, pair_size, pair_written)
+pub ruleset pair_line_rules = (pair_room, pair_held, pair_size, pair_written)

@@ -190,14 +190,14 @@ pub record Pair {f : Floor} {D : ℕ} (g : Portals f D) (c : Lengths g) (x y p e
 abbrev pub leg_of : {f : Floor} {D : ℕ} (g : Portals f D) → Lengths g → ℕ → ℕ → ℕ
 leg_of g c x p = c.moves x (g.mid p)
 
-abbrev pub run_of_lem : {f : Floor} {D : ℕ} (g : Portals f D) → Lengths g → ℕ → ℕ → ℕ → ℕ
-run_of_lem g c y p e = c.cost p e + c.moves (g.mid e) y
+abbrev pub run_by : {f : Floor} {D : ℕ} (g : Portals f D) → Lengths g → ℕ → ℕ → ℕ → ℕ
+run_by g c y p e = c.cost p e + c.moves (g.mid e) y
 
 -- An answer, of which `Given leg run` says that it is a route with this leg and run, is by choice of a pair: a route is given where there is a pair, and it is a pair with the least run.
 pub record Chosen {f : Floor} {D : ℕ} (g : Portals f D) (c : Lengths g) (x y : ℕ) (Given : ℕ → ℕ → Type 0) : Type 0 where
   pub some : (p e : ℕ) → Pair g c x y p e → (leg : ℕ) × (run : ℕ) × Given leg run
   pub is : (leg run : ℕ) → Given leg run
-      → (p : ℕ) × (e : ℕ) × Pair g c x y p e × (leg ≡ leg_of g c x p) × (run ≡ run_of_lem g c y p e) × ((q d : ℕ) → Pair g c x y q d → run ≤ run_of_lem g c y q d)
+      → (p : ℕ) × (e : ℕ) × Pair g c x y p e × (leg ≡ leg_of g c x p) × (run ≡ run_by g c y p e) × ((q d : ℕ) → Pair g c x y q d → run ≤ run_by g c y q d)
 
 -- What is promised of it.
 pub record Promise (f : Floor) (D x y : ℕ) (Given : ℕ → ℕ → Type 0) : Type 0 where
@@ -207,13 +207,13 @@ pub record Promise (f : Floor) (D x y : ℕ) (Given : ℕ → ℕ → Type 0) : 
 
 module _ {f : Floor} {D : ℕ} (g : Portals f D) (c : Lengths g) where
   -- a pair is a walk
-  pair_walk : {x y p e : ℕ} → Pair g c x y p e → SomeWalk f x y (leg_of g c x p + run_of_lem g c y p e)
+  pair_walk : {x y p e : ℕ} → Pair g c x y p e → SomeWalk f x y (leg_of g c x p + run_by g c y p e)
   pair_walk {x} {y} {p} {e} w =
       route_walk g w.end_is (c.moves_least.attained x (g.mid p) w.start_joined) (c.cost_least.attained p e w.pair_linked) (c.moves_least.attained (g.mid e) y w.end_joined)
 
   -- a walk that leaves the sector has a pair beside it, of low run, and of low leg and run together
   walk_pair : {x y n : ℕ} {over : List BorderMove} → Walk f x y n over → 0 < length over
-      → (p : ℕ) × (e : ℕ) × Pair g c x y p e × (run_of_lem g c y p e + D ≤ n + 2 * D * length over) × (leg_of g c x p + run_of_lem g c y p e ≤ n + 2 * D * length over)
+      → (p : ℕ) × (e : ℕ) × Pair g c x y p e × (run_by g c y p e + D ≤ n + 2 * D * length over) × (leg_of g c x p + run_by g c y p e ≤ n + 2 * D * length over)
   walk_pair {x} {y} w h =
       let b = walk_beside g w h in
       let p : ℕ = b.first in
@@ -244,7 +244,7 @@ module _ {f : Floor} {D : ℕ} (g : Portals f D) (c : Lengths g) where
       walks leg run a =
           let h = ch.is leg run a in
           let w = pair_walk h.2 in
-          let same : leg_of g c x h.0 + run_of_lem g c y h.0 h.1 ≡ leg + run = omega (arith, h.3, h.4) in
+          let same : leg_of g c x h.0 + run_by g c y h.0 h.1 ≡ leg + run = omega (arith, h.3, h.4) in
           (w.0, rw same at w.1)
 
 -- The winner by run, of a list of candidates, each with a leg and a run.
@@ -256,8 +256,8 @@ pub record Winning {A : Type 0} (leg run : A → ℕ) (cs : List A) (l r : ℕ) 
 
 -- Where the candidates are pairs with their leg and run, and each pair has one whose run is no larger, the winner is a choice.
 pub chosen : {f : Floor} {D : ℕ} (g : Portals f D) (c : Lengths g) (x y : ℕ) {A : Type 0} (start end leg run : A → ℕ) (cs : List A)
-    → ((a : A) → In a cs → Pair g c x y (start a) (end a) × (leg a ≡ leg_of g c x (start a)) × (run a ≡ run_of_lem g c y (start a) (end a)))
-    → ((p e : ℕ) → Pair g c x y p e → (a : A) × In a cs × (run a ≤ run_of_lem g c y p e))
+    → ((a : A) → In a cs → Pair g c x y (start a) (end a) × (leg a ≡ leg_of g c x (start a)) × (run a ≡ run_by g c y (start a) (end a)))
+    → ((p e : ℕ) → Pair g c x y p e → (a : A) × In a cs × (run a ≤ run_by g c y p e))
     → Chosen g c x y (Winning leg run cs)
 chosen g c x y start end leg run cs are has = record {
   some = λ p e w. let z = winner_some run (has p e w).1 in (leg z.0, run z.0, record { one = z.0; wins = z.1; leg_is = refl; run_is = refl });

@@ -26,9 +26,9 @@ unfolding region
 length_region a n xs h = simp (length-take, length-drop) (omega arith)
 
 -- what stands at i of a region
-pub get_d_region : (a n : ℕ) (xs : List ℕ) (i : ℕ) → i < n → get_or (region a n xs) i 0 ≡ get_or xs (a + i) 0
+pub get_or_region : (a n : ℕ) (xs : List ℕ) (i : ℕ) → i < n → get_or (region a n xs) i 0 ≡ get_or xs (a + i) 0
 unfolding region
-get_d_region a n xs i h = get_or-take n (drop a xs) i 0 h ∙ get_or-drop a xs i 0
+get_or_region a n xs i h = get_or-take n (drop a xs) i 0 h ∙ get_or-drop a xs i 0
 
 -- a region of a region
 pub region_region : (a n b k : ℕ) (xs : List ℕ) → b + k ≤ n → a + n ≤ length xs → region b k (region a n xs) ≡ region (a + b) k xs
@@ -38,11 +38,11 @@ region_region a n b k xs l fits =
     ext_get_or 0 (region b k (region a n xs)) (region (a + b) k xs) (long ∙ sym (length_region (a + b) k xs (omega arith)))
     (λ i h.
     let low : i < k = rw (← long) h in
-    get_d_region b k (region a n xs) i low ∙ get_d_region a n xs (b + i) (omega arith) ∙ ap (λ (j : ℕ). get_or xs j 0) (sym (add_assoc a b i)) ∙ sym (get_d_region (a + b) k xs i low))
+    get_or_region b k (region a n xs) i low ∙ get_or_region a n xs (b + i) (omega arith) ∙ ap (λ (j : ℕ). get_or xs j 0) (sym (add_assoc a b i)) ∙ sym (get_or_region (a + b) k xs i low))
 
 -- one element is a region
 alone : (p : ℕ) (xs : List ℕ) → get_or xs p 0 ≡ get_or (region p 1 xs) 0 0
-alone p xs = sym (get_d_region p 1 xs 0 (omega arith) ∙ ap (λ (k : ℕ). get_or xs k 0) (add-zero p))
+alone p xs = sym (get_or_region p 1 xs 0 (omega arith) ∙ ap (λ (k : ℕ). get_or xs k 0) (add-zero p))
 
 module _ (a n : ℕ) (f : List ℕ → List ℕ) (xs : List ℕ) (fits : a + n ≤ length xs) (kept : length (f (region a n xs)) ≡ n) where
   pub length_within : length (within a n f xs) ≡ length xs
@@ -82,14 +82,14 @@ module _ (a n : ℕ) (f : List ℕ → List ℕ) (xs : List ℕ) (fits : a + n �
           ap (λ (k : ℕ). drop k l) e ∙ sym (drop-drop (b - (a + n)) (a + n) l) ∙ ap (drop (b - (a + n))) (sym (drop-drop n a l))
 
   -- what stands before it, in it and after it
-  pub get_d_below : (p : ℕ) → p < a → get_or (within a n f xs) p 0 ≡ get_or xs p 0
-  get_d_below p l = alone p (within a n f xs) ∙ ap (λ (ys : List ℕ). get_or ys 0 0) (region_below p 1 (omega arith)) ∙ sym (alone p xs)
+  pub get_or_below : (p : ℕ) → p < a → get_or (within a n f xs) p 0 ≡ get_or xs p 0
+  get_or_below p l = alone p (within a n f xs) ∙ ap (λ (ys : List ℕ). get_or ys 0 0) (region_below p 1 (omega arith)) ∙ sym (alone p xs)
 
-  pub get_d_inside : (j : ℕ) → j < n → get_or (within a n f xs) (a + j) 0 ≡ get_or (f (region a n xs)) j 0
-  get_d_inside j l = sym (get_d_region a n (within a n f xs) j l) ∙ ap (λ (ys : List ℕ). get_or ys j 0) region_within
+  pub get_or_inside : (j : ℕ) → j < n → get_or (within a n f xs) (a + j) 0 ≡ get_or (f (region a n xs)) j 0
+  get_or_inside j l = sym (get_or_region a n (within a n f xs) j l) ∙ ap (λ (ys : List ℕ). get_or ys j 0) region_within
 
-  pub get_d_above : (p : ℕ) → a + n ≤ p → get_or (within a n f xs) p 0 ≡ get_or xs p 0
-  get_d_above p l = alone p (within a n f xs) ∙ ap (λ (ys : List ℕ). get_or ys 0 0) (region_above p 1 l) ∙ sym (alone p xs)
+  pub get_or_above : (p : ℕ) → a + n ≤ p → get_or (within a n f xs) p 0 ≡ get_or xs p 0
+  get_or_above p l = alone p (within a n f xs) ∙ ap (λ (ys : List ℕ). get_or ys 0 0) (region_above p 1 l) ∙ sym (alone p xs)
 
 -- nothing on a region
 pub within_same : (a n : ℕ) (xs : List ℕ) → within a n (λ ys. ys) xs ≡ xs

@@ -42,10 +42,10 @@ tabulate_past f g e zero i = refl
 tabulate_past f g e (suc n) i = ap (λ x. x ∷ tabulate f n (suc (suc i))) (e i) ∙ ap (λ l. g i ∷ l) (tabulate_past f g e n (suc i))
 
 -- inside a list it does not matter what is read past its end
-pub get_d_default : (l : List ℕ) (n a b : ℕ) → n < length l → get_or l n a ≡ get_or l n b
-get_d_default [] n a b h = absurd (not-suc-le-zero h)
-get_d_default (x ∷ l) zero a b h = refl
-get_d_default (x ∷ l) (suc n) a b h = get_d_default l n a b (le_of_suc-le-suc h)
+pub get_or_default : (l : List ℕ) (n a b : ℕ) → n < length l → get_or l n a ≡ get_or l n b
+get_or_default [] n a b h = absurd (not-suc-le-zero h)
+get_or_default (x ∷ l) zero a b h = refl
+get_or_default (x ∷ l) (suc n) a b h = get_or_default l n a b (le_of_suc-le-suc h)
 
 -- ---- a list of n entries that is being filled: those before i are as the rule says
 pub record Tabled (f : ℕ → ℕ) (n i : ℕ) (t : List ℕ) : Type 0 where

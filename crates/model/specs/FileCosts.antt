@@ -16,7 +16,6 @@ use Rattle.model.specs.Refusals.{neither_refused}
 pub record Formed (file : List ℕ) : Type 0 where
   pub measures : Accepted (measures_at file)
   pub head : 5 ≤ length file
-  pub few : entry_count file ≤ 10000
   pub whole : length file ≡ 5 + 3 * entry_count file
 
 pub record Readable (file : List ℕ) (size : ℕ) : Type 0 where
@@ -36,7 +35,6 @@ formed file e =
     record {
       measures = accepted (measures_at file) b.0 c.0;
       head = ltb-false (length file) 5 a.0;
-      few = ltb-false 10000 (entry_count file) d.0;
       whole = not_different (length file) (5 + 3 * entry_count file) f.0;
     }
 
@@ -50,15 +48,15 @@ readable file size e =
     record { form = formed file n.0; on = a.0; once = b.0; room = not_different size (cells (measures_at file)) c.0 }
 
 -- and back: of such a file the list's length alone decides
-pub read_room : (file : List ℕ) (size : ℕ) → Formed file → any (entry_off file) (entry_count file) ≡ false → any (entry_again file) (entry_count file) ≡ false
+pub read_room : (file : List ℕ) (size : ℕ) → Formed file → entry_count file ≤ 10000 → any (entry_off file) (entry_count file) ≡ false → any (entry_again file) (entry_count file) ≡ false
     → read_number file size ≡ refuse (not (eqb size (cells (measures_at file)))) 16 0
 unfolding read_number or_else form_number entries_number refuse
-read_room file size f on once =
+read_room file size f few on once =
     rw (
       le-ltb (length file) 5 f.head,
       good_sectors f.measures,
       good_scale f.measures,
-      le-ltb 10000 (entry_count file) f.few,
+      le-ltb 10000 (entry_count file) few,
       eq-eqb (length file) (5 + 3 * entry_count file) f.whole,
       on,
       once,

@@ -1,4 +1,4 @@
--- 02, request 2: what write file gives. The file (is_named base) an entry for each cell that does not cost 1. Reading it gives sizes, scale and base costs back, so that two stores have the same file if and only if these are equal.
+-- 02, request 2: what write file gives. The file has an entry for each cell that does not cost 1. Reading it gives sizes, scale and base costs back, so that two stores have the same file if and only if these are equal.
 use Prim.Native.Nat.{ℕ, suc, ◌+◌, ◌*◌, ◌/◌, ◌%◌, ◌≤◌, ◌<◌}
 use Rattle.std.proofs.Math.Nat.{add-zero, zero-add}
 use native.Mathlib.Omega.{arith}
@@ -13,7 +13,7 @@ use borrow.Author.Tests.{eq-eqb, eqb-true, eqb-false, ltb-true, ltb-false, le-lt
 use Rattle.laws.specs.Search.{any, any_no, count, count_le, count_up, count_above, passing, passing_is, passing_count, passing_place, passing_at}
 use Rattle.laws.specs.Members.{at_in}
 use Rattle.laws.specs.Ladder.{refuse, not_different}
-use Rattle.laws.specs.Table.{get_d_default}
+use Rattle.laws.specs.Table.{get_or_default}
 use Rattle.model.specs.declared.Measures.{Measures}
 use Rattle.model.specs.declared.Measured.TheVariants as measured_as
 use Rattle.model.specs.Sectors.{cells}
@@ -97,7 +97,7 @@ module _ (m : Measures) (base : List ℕ) where
     file_cost =
         let far : length (u16_bytes u16s) ≡ 2 * suc (length (named_cells base)) = length_u16s u16s in
         byte_past (5 + 2 * length (named_cells base) + k) (length (u16_bytes u16s) + k) (omega arith) ∙ get_or-append-add (u16_bytes u16s) costs k 0
-        ∙ get_d_default costs k 0 (get_or base 0 0) (rw (length-map (named_cells base) (λ n. get_or base n 0)) l) ∙ get_or-map (λ n. get_or base n 0) (named_cells base) k 0
+        ∙ get_or_default costs k 0 (get_or base 0 0) (rw (length-map (named_cells base) (λ n. get_or base n 0)) l) ∙ get_or-map (λ n. get_or base n 0) (named_cells base) k 0
 
   -- ---- its entries, as a reader meets them
   file_count : entry_count (file_of m base) ≡ length (named_cells base)
@@ -175,7 +175,7 @@ module _ {m : Measures} {base file : List ℕ} (f : FileFor m base file) (a : Ac
       go false e = e
 
   file_formed : Formed file
-  file_formed = record { measures = rw f.measures a; head = omega (arith, f.whole); few = omega (arith, f.few, a.few_sectors); whole = f.whole }
+  file_formed = record { measures = rw f.measures a; head = omega (arith, f.whole); whole = f.whole }
 
   file_readable : Readable file (length base)
   file_readable = record { form = file_formed; on = off_none; once = again_none; room = room }
@@ -193,7 +193,7 @@ module _ {m : Measures} {base file : List ℕ} (f : FileFor m base file) (a : Ac
       one v l none false e = let k = f.every v l (eqb-false (get_or base v 0) 1 e) in absurd (none k.0 k.1 k.2)
 
   file_number_lem : (size : ℕ) → read_number file size ≡ refuse (not (eqb size (cells m))) 16 0
-  file_number_lem size = read_room file size file_formed off_none again_none ∙ ap (λ (n : Measures). refuse (not (eqb size (cells n))) 16 0) f.measures
+  file_number_lem size = read_room file size file_formed (omega (arith, f.few, a.few_sectors)) off_none again_none ∙ ap (λ (n : Measures). refuse (not (eqb size (cells n))) 16 0) f.measures
 
   file_gives : base_in file (length base) ≡ base
   file_gives = filled_only file (length base) (base_filled file (length base) file_readable) file_fills

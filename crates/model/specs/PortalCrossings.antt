@@ -17,9 +17,9 @@ pub record Fits (h : Hall) : Type 0 where
   pub marked : (s : ℕ) (side : Side) → mark_at h s side < 1024
 
 -- the cell at which window j of a side crosses
-pub cell_at : (h : Hall) (s : ℕ) (side : Side) (j : ℕ) → j < side_portals → mid_cell h (portal_at s side j) ≡ floor_number s (border side (crossing (mark_at h s side) j))
+pub cell_at_lem : (h : Hall) (s : ℕ) (side : Side) (j : ℕ) → j < side_portals → mid_cell h (portal_at s side j) ≡ floor_number s (border side (crossing (mark_at h s side) j))
 unfolding mid_cell midpoint
-cell_at h s side j l = let n = numbered s side j l in rw (n.sector, n.on, n.window)
+cell_at_lem h s side j l = let n = numbered s side j l in rw (n.sector, n.on, n.window)
 
 module _ (h : Hall) (fits : Fits h) (p : ℕ) (is : is_portal h p ≡ true) where
   -- its window

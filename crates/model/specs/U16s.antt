@@ -1,7 +1,7 @@
 -- Numbers as two bytes each, low byte first: how many bytes they take, and what stands at each place.
 use Rattle.std.specs.Prelude.{◌≡◌, length, get_or}
 use Rattle.std.proofs.Math.Path.{refl}
-use Rattle.std.proofs.Common.{ap, ◌∙◌, not-suc-le-zero, le_of_suc-le-suc, add_assoc, get_or-append-add}
+use Rattle.std.proofs.Common.{ap, ◌∙◌, not-suc-le-zero, le_of_suc-le-suc, add_assoc, add-one, get_or-append-add}
 use mathlib.Core.List.{List, [], ◌∷◌, ◌++◌}
 use Prim.Native.Nat.{ℕ, zero, suc, ◌+◌, ◌*◌, ◌/◌, ◌%◌, ◌<◌}
 use native.Mathlib.Omega.{arith}
@@ -38,6 +38,12 @@ module _ (rest : List ℕ) where
       two n = omega arith
 
 -- behind other bytes
+u16_next : (a b i : ℕ) (xs : List ℕ) → u16_at (a ∷ b ∷ xs) (2 * suc i) ≡ u16_at xs (2 * i)
+unfolding u16_at
+u16_next a b i xs =
+    let e : 2 * suc i ≡ suc (suc (2 * i)) = omega arith in
+    rw (e, add-one, add-one)
+
 pub u16_past : (p q : List ℕ) (a i : ℕ) → length p ≡ a → u16_at (p ++ q) (a + i) ≡ u16_at q i
 unfolding u16_at
 u16_past p q a i e = rw (← e, add_assoc (length p) i 1, get_or-append-add p q i 0, get_or-append-add p q (i + 1) 0)

@@ -1,8 +1,8 @@
 // The structs and enums of the calls. What they mean is defined in specs/, file by file in the order of document 01.
 
-// Item 1: a cell of a sector, column and row 0 to 9.
 #![tactic(auto)]
 
+// Item 1: a cell of a sector, column and row 0 to 9.
 #[derive(Clone, Copy)]
 pub struct FieldCell {
     pub column: u8,

@@ -12,7 +12,7 @@ use lib.Seq.{ext_get_or, get_or-set_same, get_or-set_other}
 use borrow.Author.Tests.{lt-ltb, le-ltb, eqb-true, eq-eqb, ne_eqb}
 use Rattle.laws.specs.Fold.{pick}
 use Rattle.laws.specs.Graph.{below_or}
-use Rattle.laws.specs.Table.{tabulate, length_tabulate, tabulate_at, get_d_default}
+use Rattle.laws.specs.Table.{tabulate, length_tabulate, tabulate_at, get_or_default}
 use Rattle.model.specs.declared.Side.{Side}
 use Rattle.model.specs.declared.Side.TheVariants.{North, East, South, West}
 use Rattle.model.specs.Cells.{beside}
@@ -233,11 +233,11 @@ module _ (l : List ℕ) (n i : ℕ) (low : i < 100) {k : ℕ} (is : k ≡ missin
 -- ---- as `spread` meets them
 start_open : (costs : List ℕ) (from : ℕ) → from < length costs → (get_or costs from 0 ≡ 255 → ⊥) → open_at costs from ≡ true
 unfolding open_at
-start_open costs from h n = rw (get_d_default costs from 255 0 h, ne_eqb (get_or costs from 0) 255 n)
+start_open costs from h n = rw (get_or_default costs from 255 0 h, ne_eqb (get_or costs from 0) 255 n)
 
 start_shut : (costs : List ℕ) (from : ℕ) → from < length costs → get_or costs from 0 ≡ 255 → open_at costs from ≡ false
 unfolding open_at
-start_shut costs from h e = rw (get_d_default costs from 255 0 h, eq-eqb (get_or costs from 0) 255 e)
+start_shut costs from h e = rw (get_or_default costs from 255 0 h, eq-eqb (get_or costs from 0) 255 e)
 
 module _ (costs : List ℕ) (from : ℕ) (long : length costs ≡ 100) (low : from < 100) {l : List ℕ} where
   -- from a blocked cell

@@ -4,8 +4,8 @@ use Rattle.std.proofs.Common.{mul-le-mul, le_refl, suc-mul, arith, sym, subst, �
 use Rattle.std.proofs.lemmas.List.{length-replicate, get_or-replicate}
 use Rattle.laws.specs.Fold.{pick}
 use Rattle.laws.specs.Search.{both}
-use Rattle.laws.specs.Table.{Tabled, tabled_none, tabled_all, get_d_default}
-use Rattle.laws.specs.Region.{region, within, length_region, get_d_region, length_within, get_d_below, get_d_inside, get_d_above}
+use Rattle.laws.specs.Table.{Tabled, tabled_none, tabled_all, get_or_default}
+use Rattle.laws.specs.Region.{region, within, length_region, get_or_region, length_within, get_or_below, get_or_inside, get_or_above}
 use Rattle.model.specs.declared.Measures.{Measures}
 use Rattle.model.specs.Sectors.{sectors}
 use Rattle.model.specs.Directions.{on_axis}
@@ -63,7 +63,7 @@ module _ {m : Measures} {xs : List ℕ} where
       → cs ≡ within k 10 (λ old. region a 10 xs) bs → Showing m xs (k + 10) cs
   showing_ten k a {bs} h most fits same e = rw e (record {
     passed = record { within = most; long = length_within k 10 put bs room kept ∙ h.passed.long; at = λ p b. go p b (leb k p) refl };
-    ahead = λ p b c. get_d_above k 10 put bs room kept p b ∙ h.ahead p (omega arith) c;
+    ahead = λ p b c. get_or_above k 10 put bs room kept p b ∙ h.ahead p (omega arith) c;
   })
     where
       put : List ℕ → List ℕ
@@ -80,8 +80,8 @@ module _ {m : Measures} {xs : List ℕ} where
           let j : ℕ = p - k in
           let at : p ≡ k + j = omega (arith, leb-true k p e) in
           let l : j < 10 = omega (arith, leb-true k p e) in
-          rw at (get_d_inside k 10 put bs room kept j l ∙ get_d_region a 10 xs j l ∙ sym (same j l))
-      go p b false e = get_d_below k 10 put bs room kept p (leb-false k p e) ∙ h.passed.at p (leb-false k p e)
+          rw at (get_or_inside k 10 put bs room kept j l ∙ get_or_region a 10 xs j l ∙ sym (same j l))
+      go p b false e = get_or_below k 10 put bs room kept p (leb-false k p e) ∙ h.passed.at p (leb-false k p e)
 
 -- ---- row by row: row y of the plain floor begins at its first cell
 abbrev pub row_start : ℕ → ℕ
@@ -107,7 +107,7 @@ module _ {m : Measures} {xs : List ℕ} (costs : Costs m xs) where
       let sum : (c * m.rows + y / 10) * 100 + (y % 10 * 10 + j) ≡ (c * m.rows + y / 10) * 100 + y % 10 * 10 + j = omega arith in
       let few : c ≤ 9 = omega (arith, costs.measures.few_columns) in
       rw (place, shown_at m xs c (y / 10) (j + 10) (y % 10 + 10) few (omega arith), column, row, index, c', y', le-leb 1 (c + 1) (omega arith), le-leb (c + 1) m.columns (omega arith), le-leb 1 (y / 10 + 1) (omega arith), le-leb (y / 10 + 1) m.rows (omega arith), sum)
-      (get_d_default xs _ 255 0 (row_fits y c j down across l))
+      (get_or_default xs _ 255 0 (row_fits y c j down across l))
 
   pub row_more : (y c : ℕ) {bs cs : List ℕ} → y < m.rows * 10 → c < m.columns → Showing m xs (row_start y + c * 10) bs
       → cs ≡ within (row_start y + c * 10) 10 (λ old. region ((c * m.rows + y / 10) * 100 + y % 10 * 10) 10 xs) bs → Showing m xs (row_start y + (c + 1) * 10) cs
