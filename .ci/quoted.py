@@ -16,8 +16,8 @@ NAME = re.compile(r"(?<!`)`([^\W\d][\w'.:/-]{2,})`(?!`)")
 PATH = re.compile(rf"(?<![\w./-])((?:{FOLDERS})/[\w./-]*[\w/-])")
 SPLIT = re.compile(r"[^\w'-]+")
 
-# Documents that are not ours to mend, and quoted words that are nothing of this repository.
-GIVEN = ("docs/01-scope.md", "docs/02-change-requests.md", "docs/src/")
+# Documents that are not ours to mend, one that quotes what stood before, and quoted words that are nothing of this repository.
+GIVEN = ("docs/01-scope.md", "docs/02-change-requests.md", "docs/src/", "docs/PORT.md")
 ELSEWHERE = {
     "cargo-web": "a package of Debian's",
 }
