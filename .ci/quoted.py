@@ -20,6 +20,7 @@ SPLIT = re.compile(r"[^\w'-]+")
 GIVEN = ("docs/01-scope.md", "docs/02-change-requests.md", "docs/src/", "docs/PORT.md")
 ELSEWHERE = {
     "cargo-web": "a package of Debian's",
+    "rattle-kit-5b-plain": "the kit that the repository was written for",
 }
 
 
