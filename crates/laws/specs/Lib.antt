@@ -3,6 +3,7 @@ pub mod Fold
 pub mod Members
 pub mod Search
 pub mod Hits
+pub mod Ranges
 pub mod Spans
 pub mod Ladder
 pub mod Region

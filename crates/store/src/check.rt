@@ -1,38 +1,35 @@
 // The tests of the store check, and those that build and read file share with it.
-ghost use Rattle.std.specs.Prelude.{◌≡◌, not, ◌+◌, ◌*◌, ◌≤◌, ◌<◌, ltb, eqb, length};
+ghost use Rattle.std.specs.Prelude.{◌≡◌, not, ◌+◌, ◌*◌, ◌<◌, ltb, eqb, length};
 ghost use Rattle.laws.specs.Search.{any};
 ghost use Rattle.model.specs.Sectors.{sectors, cells};
-ghost use Rattle.model.specs.Store.{size_of, marks_in};
+ghost use Rattle.model.specs.Store.{size_of};
 ghost use Rattle.model.specs.Accepted.{outside, bad_sectors, bad_scale, Accepted};
 ghost use Rattle.model.specs.Calls.{bad_mark};
 ghost use Rattle.store.specs.Ends.{is_above, end_line, line_mark, Within, side_ends};
+ghost use Rattle.store.specs.Stored.{held};
 
-use crate::layout::{mark_in, size_of};
-use fields::numbers::wide;
+use crate::layout::{Store, size_of};
 use fields::sectors::{cells, sectors};
 use fields::sides::side_at;
 use model::{Measures, Side};
 
+#[tactic(auto, using(crate::proofs::Ranges::outside_is))]
 fn is_outside(low: u8, high: u8, n: u8) -> bool
     ensures { result ≡ outside low high n }
 {
-    if n < low {
-        return true;
-    }
-    high < n
+    !(low..=high).contains(&n)
 }
 
 // Whether columns or rows are outside 1 to 10.
+#[tactic(auto, unfolding(model::specs::Accepted::bad_sectors))]
 pub fn bad_sectors(m: Measures) -> bool
     ensures { result ≡ bad_sectors m }
 {
-    if is_outside(1, 10, m.columns) {
-        return true;
-    }
-    is_outside(1, 10, m.rows)
+    is_outside(1, 10, m.columns) || is_outside(1, 10, m.rows)
 }
 
 // Whether the scale is outside 1 to 9.
+#[tactic(auto, unfolding(model::specs::Accepted::bad_scale))]
 pub fn bad_scale(m: Measures) -> bool
     ensures { result ≡ bad_scale m }
 {
@@ -54,43 +51,35 @@ pub fn too_short(st: &[u8], m: Measures) -> bool
 }
 
 // Whether mark k of a store is above a limit.
-fn is_above(st: &[u8], m: Measures, limit: u16, k: usize) -> bool
-    requires { Accepted m × (size_of m ≤ length st.now) × (k < sectors m * 4) }
-    ensures { result ≡ is_above (marks_in m st.now) limit k }
+fn is_above(store: &Store<'_>, limit: u16, k: usize) -> bool
+    requires { k < sectors store.now.measures * 4 }
+    ensures { result ≡ is_above (held store.now).marks limit k }
 {
-    limit < mark_in(st, m, k)
+    limit < store.mark(k)
 }
 
 // Whether any mark is above 1,023.
-fn any_large(st: &[u8], m: Measures) -> bool
-    requires { Accepted m × (size_of m ≤ length st.now) }
-    ensures { result ≡ any (is_above (marks_in m st.now) 1023) (sectors m * 4) }
+fn any_large(store: &Store<'_>) -> bool
+    ensures { result ≡ any (is_above (held store.now).marks 1023) (sectors store.now.measures * 4) }
 {
-    let n = sectors(m) * 4;
-    let mut k = 0;
-    while k < n {
-        if is_above(st, m, 1023, k) {
-            return true;
-        }
-        k += 1;
-    }
-    false
+    (0..sectors(store.measures) * 4).any(|k| is_above(store, 1023, k))
 }
 
 // The sectors at a side's end of the floor: the first, what leads from each to the next, and how many there are.
-#[derive(Drop)]
+#[derive(Clone, Copy)]
 struct EndLine {
     from: usize,
     step: usize,
     count: usize,
 }
 
+#[tactic(auto, using(crate::specs::Ends::line_is), unfolding(crate::specs::Ends::end_line))]
 fn end_line(m: Measures, side: Side) -> EndLine
     requires { Accepted m }
     ensures { result ≡ end_line m side }
 {
-    let columns = wide(m.columns);
-    let rows = wide(m.rows);
+    let columns = usize::from(m.columns);
+    let rows = usize::from(m.rows);
     match side {
         Side::North => EndLine {
             from: 0,
@@ -116,42 +105,33 @@ fn end_line(m: Measures, side: Side) -> EndLine
 }
 
 // Whether a mark on side n is not 0 in a line of sectors.
-fn any_in(st: &[u8], m: Measures, line: EndLine, n: usize) -> bool
-    requires { Accepted m × (size_of m ≤ length st.now) × Within m line × (n < 4) }
-    ensures { result ≡ any (line_mark (marks_in m st.now) line n) line.count }
+fn any_in(store: &Store<'_>, line: EndLine, n: usize) -> bool
+    requires { Within store.now.measures line × (n < 4) }
+    ensures { result ≡ any (line_mark (held store.now).marks line n) line.count }
 {
-    let mut i = 0;
-    while i < line.count {
-        if is_above(st, m, 0, (line.from + i * line.step) * 4 + n) {
-            return true;
-        }
-        i += 1;
-    }
-    false
+    (0..line.count).any(|i| is_above(store, 0, (line.from + i * line.step) * 4 + n))
 }
 
-// Whether one is on any side at the side's end of the floor.
-fn any_end(st: &[u8], m: Measures) -> bool
-    requires { Accepted m × (size_of m ≤ length st.now) }
-    ensures { result ≡ any (side_ends m (marks_in m st.now)) 4 }
+// Whether one is in the line of sectors at the end of side n.
+#[tactic(auto, using(crate::specs::Ends::end_within, crate::specs::Ends::side_found))]
+fn any_at_end(store: &Store<'_>, n: usize) -> bool
+    requires { n < 4 }
+    ensures { result ≡ side_ends store.now.measures (held store.now).marks n }
 {
-    let mut n = 0;
-    while n < 4 {
-        if any_in(st, m, end_line(m, side_at(n)), n) {
-            return true;
-        }
-        n += 1;
-    }
-    false
+    any_in(store, end_line(store.measures, side_at(n)), n)
+}
+
+// Whether one is at the end of any side.
+fn any_end(store: &Store<'_>) -> bool
+    ensures { result ≡ any (side_ends store.now.measures (held store.now).marks) 4 }
+{
+    (0..4).any(|n| any_at_end(store, n))
 }
 
 // Whether any mark of a store is above 1,023, or not 0 on a side without neighbour, which is at the side's end of the floor.
-pub fn any_bad_mark(st: &[u8], m: Measures) -> bool
-    requires { Accepted m × (size_of m ≤ length st.now) }
-    ensures { result ≡ any (bad_mark m (marks_in m st.now)) (sectors m * 4) }
+#[tactic(auto, using(crate::specs::Ends::bad_any))]
+pub fn any_bad_mark(store: &Store<'_>) -> bool
+    ensures { result ≡ any (bad_mark store.now.measures (held store.now).marks) (sectors store.now.measures * 4) }
 {
-    if any_large(st, m) {
-        return true;
-    }
-    any_end(st, m)
+    any_large(store) || any_end(store)
 }

@@ -1,15 +1,80 @@
 // Where a store has the parts of a hall, their readers, and the writer of a hall. No other module computes a place in a store.
-ghost use Rattle.std.specs.Prelude.{◌≡◌, ◌++◌, ◌+◌, ◌*◌, ◌/◌, ◌%◌, ◌≤◌, ◌<◌, length, get_or, drop};
+ghost use Rattle.std.specs.Prelude.{◌≡◌, ◌++◌, ◌+◌, ◌*◌, ◌≤◌, ◌<◌, length, get_or, drop};
 ghost use Rattle.model.specs.Sectors.{sectors, cells, costs_of};
 ghost use Rattle.model.specs.Accepted.{Accepted};
-ghost use Rattle.model.specs.Store.{header, fourth_at, size_of, marks_in, hall_in, u16_bytes, written};
+ghost use Rattle.model.specs.Store.{header, fourth_at, size_of, u16_bytes, written};
 ghost use Rattle.model.specs.StoreLayout.{Laid};
-ghost use Rattle.store.specs.Layout.{hall_of, sector_marks, set_mark};
+ghost use Rattle.store.specs.Layout.{hall_of, sector_marks};
 
-use crate::reading::u16_at;
+use crate::reading::{put_u16, u16_at};
 use fields::copies::put_part;
 use fields::sectors::{SECTOR_CELLS, cells, sectors};
 use model::Measures;
+
+// A store that has the bytes of a hall of these measures.
+#[derive(Clone, Copy)]
+pub struct Store<'a> {
+    pub measures: Measures,
+    pub bytes: &'a [u8],
+    ghost accepted: { Accepted measures },
+    ghost fits: { size_of measures ≤ length bytes.now },
+}
+
+impl<'a> Store<'a> {
+    ghost use Rattle.store.specs.Stored.{held};
+
+    // The base costs.
+    pub fn base(&self) -> &'a [u8]
+        ensures { (result.now ≡ (held self.now).base) × (length result.now ≡ cells self.now.measures) }
+    {
+        let end = 4 + cells(self.measures);
+        &self.bytes[4..end]
+    }
+
+    // The scaled costs.
+    #[tactic(auto, using(crate::specs::Layout::part_is))]
+    pub fn scaled(&self) -> &'a [u8]
+        ensures { (result.now ≡ (held self.now).scaled) × (length result.now ≡ cells self.now.measures) }
+    {
+        let start = 4 + cells(self.measures);
+        let end = start + cells(self.measures);
+        &self.bytes[start..end]
+    }
+
+    // The scaled costs of sector s.
+    #[tactic(auto, using(crate::specs::Layout::sector_is))]
+    pub fn sector(&self, s: usize) -> &'a [u8]
+        requires { s < sectors self.now.measures }
+        ensures { (result.now ≡ costs_of (held self.now).scaled s) × (length result.now ≡ 100) }
+    {
+        let start = 4 + cells(self.measures) + s * SECTOR_CELLS;
+        let end = start + SECTOR_CELLS;
+        &self.bytes[start..end]
+    }
+
+    // Mark k.
+    #[tactic(auto, using(crate::specs::Layout::mark_is))]
+    pub fn mark(&self, k: usize) -> u16
+        requires { k < sectors self.now.measures * 4 }
+        ensures { result ≡ get_or (held self.now).marks k 0 }
+    {
+        u16_at(self.bytes, 4 + 2 * cells(self.measures) + 2 * k)
+    }
+
+    // The marks of the four sides of sector s.
+    #[tactic(auto, using(crate::specs::Layout::four_are))]
+    pub fn sector_marks(&self, s: usize) -> [u16; 4]
+        requires { s < sectors self.now.measures }
+        ensures { result ≡ sector_marks (held self.now).marks s }
+    {
+        [
+            self.mark(s * 4),
+            self.mark(s * 4 + 1),
+            self.mark(s * 4 + 2),
+            self.mark(s * 4 + 3),
+        ]
+    }
+}
 
 // The fourth byte of the header.
 pub fn fourth_byte(st: &[u8]) -> u8
@@ -26,56 +91,6 @@ pub fn size_of(m: Measures) -> usize
     4 + 208 * sectors(m)
 }
 
-// The base costs of a store.
-pub fn base_part(st: &[u8], m: Measures) -> &[u8]
-    requires { Accepted m × (size_of m ≤ length st.now) }
-    ensures { (result.now ≡ (hall_in m st.now).base) × (length result.now ≡ cells m) }
-{
-    let end = 4 + cells(m);
-    &st[4..end]
-}
-
-// The scaled costs of a store.
-pub fn scaled_part(st: &[u8], m: Measures) -> &[u8]
-    requires { Accepted m × (size_of m ≤ length st.now) }
-    ensures { (result.now ≡ (hall_in m st.now).scaled) × (length result.now ≡ cells m) }
-{
-    let start = 4 + cells(m);
-    let end = start + cells(m);
-    &st[start..end]
-}
-
-// The scaled costs of sector s.
-pub fn sector_part(st: &[u8], m: Measures, s: usize) -> &[u8]
-    requires { Accepted m × (size_of m ≤ length st.now) × (s < sectors m) }
-    ensures { (result.now ≡ costs_of (hall_in m st.now).scaled s) × (length result.now ≡ 100) }
-{
-    let start = 4 + cells(m) + s * SECTOR_CELLS;
-    let end = start + SECTOR_CELLS;
-    &st[start..end]
-}
-
-// Mark k of a store.
-pub fn mark_in(st: &[u8], m: Measures, k: usize) -> u16
-    requires { Accepted m × (size_of m ≤ length st.now) × (k < sectors m * 4) }
-    ensures { result ≡ get_or (marks_in m st.now) k 0 }
-{
-    u16_at(st, 4 + 2 * cells(m) + 2 * k) as u16
-}
-
-// The marks of the four sides of sector s.
-pub fn sector_marks(st: &[u8], m: Measures, s: usize) -> [u16; 4]
-    requires { Accepted m × (size_of m ≤ length st.now) × (s < sectors m) }
-    ensures { result ≡ sector_marks (marks_in m st.now) s }
-{
-    [
-        mark_in(st, m, s * 4),
-        mark_in(st, m, s * 4 + 1),
-        mark_in(st, m, s * 4 + 2),
-        mark_in(st, m, s * 4 + 3),
-    ]
-}
-
 // The header that opens a store.
 fn put_measures(m: Measures, st: &mut [u8])
     requires { 4 ≤ length st.old }
@@ -87,29 +102,19 @@ fn put_measures(m: Measures, st: &mut [u8])
     st[3] = 0;
 }
 
-// The two bytes of mark k, low byte first.
-fn put_mark(marks: &[u16], k: usize, bytes: &mut [u8])
-    requires { (k < length marks.now) × (2 * length marks.now ≤ length bytes.old) }
-    ensures { bytes.new ≡ set_mark marks.now k bytes.old }
-{
-    let mark = marks[k];
-    bytes[2 * k] = (mark % 256) as u8;
-    bytes[2 * k + 1] = (mark / 256) as u8;
-}
-
 // The bytes of all marks.
+#[tactic(auto, using(crate::proofs::Laying::marking), unfolding(crate::specs::Layout::set_mark))]
 fn put_marks(marks: &[u16], bytes: &mut [u8])
     requires { length bytes.old ≡ 2 * length marks.now }
     ensures { bytes.new ≡ u16_bytes marks.now }
 {
-    let mut k = 0;
-    while k < marks.len() {
-        put_mark(marks, k, bytes);
-        k += 1;
+    for (k, mark) in marks.iter().enumerate() {
+        put_u16(bytes, 2 * k, *mark);
     }
 }
 
 // Writes a hall into a store. Bytes past its size stay.
+#[tactic(auto, using(crate::proofs::Laying::written_by))]
 pub fn write_hall(m: Measures, base: &[u8], scaled: &[u8], marks: &[u16], st: &mut [u8])
     requires { Laid (hall_of m base.now scaled.now marks.now) × (size_of m ≤ length st.old) }
     ensures { st.new ≡ written (hall_of m base.now scaled.now marks.now) st.old }

@@ -3,4 +3,5 @@
 
 pub mod check;
 pub mod layout;
+pub mod opened;
 pub mod reading;

@@ -1,14 +1,10 @@
 -- `any_end` searches the sides.
-use Rattle.laws.specs.Search.{seeking}
-use Rattle.store.specs.Ends.{end_within, side_found}
-use borrow.Author.Rules.{rules}
+use Rattle.std.proofs.Common.{rules, tests, refl}
+use Rattle.laws.specs.Ranges.{any_range}
+use Rattle.store.specs.Stored.{held}
+use Rattle.store.specs.Ends.{side_ends}
 use Rattle.store.proofs.check.any_end.Goals as goal
 
-pub any_in-requires : goal.any_in-requires
-any_in-requires c = search (rules, end_within)
-
-pub returns-then-any_in : goal.returns-then-any_in
-returns-then-any_in c = search (rules, seeking, side_found)
-
 pub returns : goal.returns
-returns c = search (rules, seeking)
+returns c =
+    any_range (side_ends c.args.store.now.measures (held c.args.store.now).marks) 4 _ _ _ _ c.any.ensures.ran refl (λ x b q k. search (rules, tests))

@@ -1,10 +1,10 @@
 -- `any_in` searches a line of sectors.
-use Rattle.laws.specs.Search.{seeking}
-use borrow.Author.Rules.{rules}
+use Rattle.std.proofs.Common.{rules, tests, refl}
+use Rattle.laws.specs.Ranges.{any_range}
+use Rattle.store.specs.Stored.{held}
+use Rattle.store.specs.Ends.{line_mark}
 use Rattle.store.proofs.check.any_in.Goals as goal
 
-pub returns-then-is_above : goal.returns-then-is_above
-returns-then-is_above c = search (rules, seeking)
-
 pub returns : goal.returns
-returns c = search (rules, seeking)
+returns c =
+    any_range (line_mark (held c.args.store.now).marks c.args.line c.args.n) _ _ _ _ _ c.any.ensures.ran refl (λ x b q k. search (rules, tests))

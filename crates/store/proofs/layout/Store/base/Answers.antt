@@ -1,9 +1,9 @@
--- `base_part` cuts the base costs out.
+-- `base` cuts the base costs out.
 use native.Mathlib.Omega.{arith}
 use lib.ListN.{length-take, length-drop}
 use Prim.Native.Nat.{◌+◌}
 use Rattle.store.specs.Layout.{part_is}
-use Rattle.store.proofs.layout.base_part.Goals as goal
+use Rattle.store.proofs.layout.Store.base.Goals as goal
 
 pub returns : goal.returns
 returns c =
