@@ -1,14 +1,17 @@
--- The entries of a file put one after the other into a list of costs, and their floor numbers into a set of those met.
-use Rattle.std.specs.Prelude.{◌≡◌, refl, Bool, true, false, List, ℕ, ◌+◌, ◌<◌, ◌≤◌, ltb, length, get_or, set, replicate}
-use Rattle.std.proofs.Common.{ap, ◌∙◌, arith}
+-- The entries of a file put one after the other into a list of costs, and their floor numbers marked as they are met.
+use Rattle.std.specs.Prelude.{◌≡◌, ◌≢◌, refl, Bool, true, false, List, ℕ, ◌+◌, ◌<◌, ◌≤◌, length, get_or, set, replicate}
+use Rattle.std.proofs.Common.{sym, ap, ◌∙◌, arith, length-set, get_or-set_same, get_or-set_other, eq-eqb, ne_eqb}
+use Rattle.std.proofs.lemmas.Bool.{false≢true}
+use Rattle.std.proofs.Math.Decide.{ℕ_discrete}
 use Rattle.std.proofs.lemmas.List.{length-replicate, get_or-replicate}
-use Rattle.laws.specs.Fold.{run, Ran, ran_none, ran_turn}
-use Rattle.laws.specs.Search.{any, any_none, any_some, Clear, clear_none, clear_turn, any_found, any_missed}
+use Rattle.laws.specs.Fold.{run}
+use Rattle.laws.specs.Search.{first, any, any_no, any_some, any_has, Clear, clear_none, clear_turn, any_found, any_missed}
+use Rattle.laws.specs.Hits.{same_test}
 use Rattle.laws.specs.Puts.{put, length_puts, puts_none, puts_one}
 use Rattle.model.specs.Accepted.{Accepted}
 use Rattle.model.specs.Store.{measures_at, entry_count, entry_number, entry_cost, entry_names, base_in}
 use Rattle.model.specs.Calls.{entry_off, entry_again}
-use Rattle.model.specs.FileCosts.{Readable, Filled, entry_on, names_own, names_other, one_place, base_filled, filled_only}
+use Rattle.model.specs.FileCosts.{Readable, Filled, entry_on, one_place, base_filled, filled_only}
 
 -- ---- the costs
 abbrev pub put_entry : List ℕ → ℕ → List ℕ → List ℕ
@@ -37,69 +40,67 @@ filled_from file size n {ones} {out} r en eo e = e ∙ rw (en, eo) (filled_only 
     }
 
 -- ---- the floor numbers
--- 1 at the floor number of entry k
-abbrev pub meet : List ℕ → ℕ → List ℕ → List ℕ
-meet file = put (entry_number file) (λ _. 1)
+-- The loop that looks for a repeat: of the file's entries none before k was met before, and a number is marked if one of those has it.
+pub record Unrepeated (file : List ℕ) (k : ℕ) (met : List Bool) : Type 0 where
+  pub clear : Clear (entry_again file) (entry_count file) k
+  pub long : length met ≡ 10000
+  pub marked : (n : ℕ) → n < 10000 → get_or met n false ≡ any (entry_names file n) k
 
--- looked for, and put there, by the number n that was read
-module _ (file : List ℕ) (k n : ℕ) (seen : List ℕ) (is : n ≡ entry_number file k) where
-  pub met_there : ltb 0 (get_or seen n 0) ≡ ltb 0 (get_or seen (entry_number file k) 0)
-  met_there = rw is
-
-  pub met_put : set seen n 1 ≡ meet file k seen
-  unfolding put
-  met_put = rw is
-
--- the set before any is met
-abbrev unmet : List ℕ
-unmet = replicate 10000 0
-
-unmet_long : length unmet ≡ 10000
-unmet_long = length-replicate {A = ℕ} 10000 0
-
--- after k entries a number is in the set if one of them names it
-met_are : (file : List ℕ) (k n : ℕ) → n < 10000 → ltb 0 (get_or (run (meet file) k unmet) n 0) ≡ any (entry_names file n) k
-met_are file k n h = go (any (entry_names file n) k) refl
-  where
-    go : (b : Bool) → any (entry_names file n) k ≡ b → ltb 0 (get_or (run (meet file) k unmet) n 0) ≡ b
-    go true e =
-        let s = any_some (entry_names file n) k e in
-        rw (puts_one (entry_number file) (λ _. 1) unmet k n _ 1 (omega (arith, unmet_long)) s.0 (names_own file n _ s.1) (λ j m same. refl))
-    go false e =
-        let out : get_or unmet n 0 ≡ 0 = get_or-replicate 10000 n 0 0 h in
-        rw (puts_none (entry_number file) (λ _. 1) unmet k n (λ j m. names_other file n j (any_none (entry_names file n) k j e m)), out)
-
--- The loop that looks for a repeat: of the file's n entries none before k was met before, and the set has the numbers of those.
-pub record Unrepeated (file : List ℕ) (n k : ℕ) (seen : List ℕ) : Type 0 where
-  pub all : n ≡ entry_count file
-  pub on : (j : ℕ) → j < n → entry_number file j < 10000
-  pub clear : Clear (entry_again file) n k
-  pub ran : Ran (meet file) n k unmet seen
-
-pub unrepeated_none : (file : List ℕ) (n : ℕ) → Accepted (measures_at file) → n ≡ entry_count file → any (entry_off file) (entry_count file) ≡ false → Unrepeated file n 0 unmet
-unrepeated_none file n a c e = record {
-  all = c;
-  on = λ j l. omega (arith, entry_on file (entry_count file) j e (omega arith), a.few_sectors);
-  clear = clear_none (entry_again file) n;
-  ran = ran_none (meet file) n unmet;
+pub unrepeated_none : (file : List ℕ) → Unrepeated file 0 (replicate 10000 false)
+unrepeated_none file = record {
+  clear = clear_none (entry_again file) (entry_count file);
+  long = length-replicate {A = Bool} 10000 false;
+  marked = λ n l. get_or-replicate 10000 n false false l ∙ any_no (entry_names file n) 0 0 (omega arith) (λ j m. absurd (omega arith));
 }
 
-module _ {file : List ℕ} {n k : ℕ} {seen : List ℕ} (u : Unrepeated file n k seen) where
-  pub unrepeated_room : k < n → entry_number file k < length seen
-  unrepeated_room l = omega (arith, u.on k l, u.ran.same, unmet_long)
+-- the search one number further, where that number does not pass
+any_still : (p : ℕ → Bool) (k : ℕ) → p k ≡ false → any p (k + 1) ≡ any p k
+any_still p k e = same_test _ _ there (λ h. let f = any_some p k h in any_has p (k + 1) (first p k) (omega (arith, f.0)) f.1)
+  where
+    there : any p (k + 1) ≡ true → any p k ≡ true
+    there h =
+        let f = any_some p (k + 1) h in
+        any_has p k (first p (k + 1)) (before (ℕ_discrete (first p (k + 1)) k) f.0 f.1) f.1
+      where
+        before : {n : ℕ} → Dec (n ≡ k) → n < k + 1 → p n ≡ true → n < k
+        before (yes z) l t = absurd (false≢true (sym e ∙ ap p (sym z) ∙ t))
+        before (no z) l t = omega arith
 
-  again_is : {r : Bool} → k < n → r ≡ ltb 0 (get_or seen (entry_number file k) 0) → r ≡ entry_again file k
+-- whether an entry names a cell, by its number
+names_is : (file : List ℕ) (n k : ℕ) → entry_number file k ≡ n → entry_names file n k ≡ true
+unfolding entry_names
+names_is file n k e = eq-eqb (entry_number file k) n e
+
+names_not : (file : List ℕ) (n k : ℕ) → entry_number file k ≢ n → entry_names file n k ≡ false
+unfolding entry_names
+names_not file n k e = ne_eqb (entry_number file k) n e
+
+-- the floor numbers of such a file have a place among the marks
+pub entry_marked : (file : List ℕ) (k : ℕ) → Accepted (measures_at file) → any (entry_off file) (entry_count file) ≡ false → k < entry_count file → entry_number file k < 10000
+entry_marked file k a e l = omega (arith, entry_on file (entry_count file) k e l, a.few_sectors)
+
+module _ {file : List ℕ} {k : ℕ} {met : List Bool} (u : Unrepeated file k met) (l : k < entry_count file) (low : entry_number file k < 10000) {number : ℕ} (is : number ≡ entry_number file k) where
+  again_is : get_or met number false ≡ entry_again file k
   unfolding entry_again
-  again_is l e = e ∙ rw u.ran.is (met_are file k (entry_number file k) (u.on k l))
+  again_is = rw is (u.marked (entry_number file k) low)
 
-  pub unrepeated_turn : {r : Bool} {out : List ℕ} → k < n → r ≡ ltb 0 (get_or seen (entry_number file k) 0) → r ≡ false → out ≡ meet file k seen → length out ≡ length seen → Unrepeated file n (k + 1) out
-  unrepeated_turn l e h o s = record { all = u.all; on = u.on; clear = clear_turn u.clear l (again_is l e) h; ran = ran_turn u.ran l o s }
+  pub repeated : get_or met number false ≡ true → true ≡ any (entry_again file) (entry_count file)
+  repeated h = any_found u.clear l again_is h
 
-  pub repeated : {r : Bool} → k < n → r ≡ ltb 0 (get_or seen (entry_number file k) 0) → r ≡ true → true ≡ any (entry_again file) (entry_count file)
-  repeated l e h = rw (← u.all) (any_found u.clear l (again_is l e) h)
+  pub unrepeated_turn : get_or met number false ≡ false → Unrepeated file (k + 1) (set met number true)
+  unrepeated_turn h = record {
+    clear = clear_turn u.clear l again_is h;
+    long = length-set met number true ∙ u.long;
+    marked = λ n m. one n m (ℕ_discrete n number);
+  }
+    where
+      one : (n : ℕ) → n < 10000 → Dec (n ≡ number) → get_or (set met number true) n false ≡ any (entry_names file n) (k + 1)
+      one n m (yes e) =
+          let own : entry_names file n k ≡ true = names_is file n k (sym is ∙ sym e) in
+          rw e (get_or-set_same met number true false (omega (arith, u.long))) ∙ sym (any_has (entry_names file n) (k + 1) k (omega arith) own)
+      one n m (no e) =
+          let other : entry_names file n k ≡ false = names_not file n k (λ h. e (sym h ∙ sym is)) in
+          get_or-set_other met number n true false e ∙ u.marked n m ∙ sym (any_still (entry_names file n) k other)
 
-  pub unrepeated_all : n ≤ k → false ≡ any (entry_again file) (entry_count file)
-  unrepeated_all l = rw (← u.all) (any_missed u.clear l)
-
--- for `search (needs, repeating)`
-pub ruleset repeating = (unrepeated_none, unrepeated_room, unrepeated_turn, repeated, unrepeated_all)
+pub unrepeated_all : {file : List ℕ} {k : ℕ} {met : List Bool} → Unrepeated file k met → entry_count file ≤ k → false ≡ any (entry_again file) (entry_count file)
+unrepeated_all u l = any_missed u.clear l

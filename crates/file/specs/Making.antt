@@ -1,11 +1,11 @@
 -- A hall file made cell by cell: what stands in the list after the cells passed.
-use Rattle.std.specs.Prelude.{◌≡◌, ◌≢◌, Bool, List, [], ◌∷◌, ◌++◌, ℕ, zero, suc, ◌+◌, ◌-◌, ◌*◌, ◌/◌, ◌%◌, ◌≤◌, ◌<◌, ltb, length, get_or, set, drop}
+use Rattle.std.specs.Prelude.{◌≡◌, ◌≢◌, Bool, List, [], ◌∷◌, ◌++◌, ℕ, zero, suc, ◌+◌, ◌-◌, ◌*◌, ◌/◌, ◌%◌, ◌≤◌, ◌<◌, ltb, length, get_or, set, take, drop, filter, count_by, not, eqb}
 use Rattle.std.proofs.Math.Path.{refl}
-use Rattle.std.proofs.Common.{sym, ap, ◌∙◌, add-zero, arith, length-set, get_or-set_other, get_or-append-add, get_or-drop, eq-eqb, ne_eqb, ltb-true, ltb-false}
+use Rattle.std.proofs.Common.{sym, ap, ◌∙◌, add-zero, arith, length-set, take_all, get_or-set_other, get_or-append-add, get_or-drop, eq-eqb, ne_eqb, ltb-true, ltb-false}
 use Rattle.std.proofs.Math.Bool.{true, false}
-use Rattle.std.proofs.lemmas.List.Edits.{sets, sets-eq}
+use Rattle.std.proofs.lemmas.List.Sums.{length-filter, count_by_more_yes, count_by_more_no}
 use Rattle.laws.specs.Fold.{pick, bit}
-use Rattle.laws.specs.Search.{count_le, count_up, count_above, Counted, counted_none, counted_turn, counted_all}
+use Rattle.laws.specs.Search.{count, count_le, count_up, count_above, Counted, counted_none, counted_turn, counted_all}
 use Rattle.laws.specs.Toward.{toward, front_of}
 use Rattle.model.specs.declared.Measures.{Measures}
 use Rattle.model.specs.Store.{u16_bytes, is_named, named_cells, file_of}
@@ -14,6 +14,27 @@ use Rattle.model.specs.FileWritten.{named_count, named_at, length_file, file_low
 -- ---- how many entries
 pub counted_named : (base : List ℕ) {n k : ℕ} → Counted (is_named base) (length base) n k → length base ≤ n → k ≡ length (named_cells base)
 counted_named base c l = counted_all c l ∙ sym (named_count base)
+
+-- as many as a filter finds
+counted_by : (p : ℕ → Bool) (xs : List ℕ) (n : ℕ) → n ≤ length xs → count_by p (take n xs) ≡ count (λ k. p (get_or xs k 0)) n
+unfolding count bit
+counted_by p xs zero l = refl
+counted_by p xs (suc n) l = go (p (get_or xs n 0)) refl (counted_by p xs n (omega arith))
+  where
+    next : suc n ≡ n + 1
+    next = omega arith
+
+    go : (b : Bool) → p (get_or xs n 0) ≡ b → count_by p (take n xs) ≡ count (λ k. p (get_or xs k 0)) n → count_by p (take (suc n) xs) ≡ count (λ k. p (get_or xs k 0)) n + bit (p (get_or xs n 0))
+    go true e h = rw (e, next) (count_by_more_yes p xs n 0 (omega arith) e ∙ ap (λ (c : ℕ). c + 1) h)
+    go false e h = rw (e, next) (count_by_more_no p xs n 0 (omega arith) e ∙ h ∙ sym (add-zero _))
+
+pub filtered_named : (base : List ℕ) → length (filter (λ cost. not (eqb cost 1)) base) ≡ length (named_cells base)
+unfolding is_named
+filtered_named base =
+    let all : take (length base) base ≡ base = take_all (length base) base (omega arith) in
+    length-filter (λ cost. not (eqb cost 1)) base
+    ∙ rw all at (counted_by (λ cost. not (eqb cost 1)) base (length base) (omega arith))
+    ∙ sym (named_count base)
 
 -- ---- the bytes
 -- sizes, scale and count
@@ -27,10 +48,7 @@ set_cell base n k entries file = set (set (set file (5 + 2 * k) (n % 256)) (5 + 
 unfoldable pub put_cell : List ℕ → ℕ → ℕ → ℕ → List ℕ → List ℕ
 put_cell base n k entries file = pick (is_named base n) (set_cell base n k entries file) file
 
--- the list opened so, and what the test of a cell's cost decides
-pub open_with : (m : Measures) (entries : ℕ) (file : List ℕ) → 5 ≤ length file → sets file 0 (opening m entries) ≡ opening m entries ++ drop 5 file
-open_with m entries file h = sets-eq (opening m entries) file 0 h
-
+-- what the test of a cell's cost decides
 module _ (base : List ℕ) (n : ℕ) (h : get_or base n 0 ≡ 1) where
   skips : is_named base n ≡ false
   unfolding is_named

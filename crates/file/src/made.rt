@@ -5,29 +5,13 @@ ghost use Rattle.model.specs.Store.{is_named, named_cells, file_of};
 ghost use Rattle.file.specs.Making.{opening, put_cell};
 
 use model::Measures;
+use store::reading::put_u16;
 
-// 1 for a cell that has an entry, as it does not cost 1; 0 for another.
-fn one_named(base: &[u8], n: usize) -> usize
-    requires { n < length base.now }
-    ensures { (result ≡ bit (is_named base.now n)) × (result ≤ 1) }
-{
-    if base[n] == 1 {
-        return 0;
-    }
-    1
-}
-
-// How many cells have an entry.
+// How many cells have an entry, as they do not cost 1.
 pub fn named_count(base: &[u8]) -> usize
     ensures { (result ≡ length (named_cells base.now)) × (result ≤ length base.now) }
 {
-    let mut count = 0;
-    let mut n = 0;
-    while n < base.len() {
-        count += one_named(base, n);
-        n += 1;
-    }
-    count
+    base.iter().filter(|cost| **cost != 1).count()
 }
 
 // Sizes, scale and count, which open a file.
@@ -38,8 +22,7 @@ fn put_opening(m: Measures, count: usize, file: &mut [u8])
     file[0] = m.columns;
     file[1] = m.rows;
     file[2] = m.scale;
-    file[3] = (count % 256) as u8;
-    file[4] = (count / 256) as u8;
+    put_u16(file, 3, count as u16);
 }
 
 // Puts cell n, if it has an entry, into a file of count entries, of which k are in. Gives how many are in then.
@@ -52,8 +35,7 @@ fn put_cell(base: &[u8], n: usize, k: usize, count: usize, file: &mut [u8]) -> u
     if cost == 1 {
         return k;
     }
-    file[5 + 2 * k] = (n % 256) as u8;
-    file[5 + 2 * k + 1] = (n / 256) as u8;
+    put_u16(file, 5 + 2 * k, n as u16);
     file[5 + 2 * count + k] = cost;
     k + 1
 }
@@ -64,10 +46,8 @@ pub fn make_file(m: Measures, base: &[u8], count: usize, file: &mut [u8])
     ensures { file.new ≡ file_of m base.now ++ drop (length (file_of m base.now)) file.old }
 {
     let mut k = 0;
-    let mut n = 0;
-    while n < base.len() {
+    for n in 0..base.len() {
         k = put_cell(base, n, k, count, file);
-        n += 1;
     }
     put_opening(m, count, file);
 }

@@ -1,18 +1,15 @@
--- `named_count` counts the cells that have an entry: those passed are counted.
-use native.Mathlib.Omega.{arith}
-use Rattle.laws.specs.Search.{counted_none, counted_turn, counted_few}
-use Rattle.file.specs.Making.{counted_named}
-use borrow.Author.Rules.{rules}
+-- `named_count` counts the cells that have an entry.
+use Rattle.std.proofs.Common.{◌≡◌, ◌∙◌, not, eqb, length, arith, rules, tests}
+use Rattle.std.specs.Prelude.{filter}
+use Rattle.std.proofs.lemmas.Iterator.{YieldsList-from_slice}
+use Rattle.std.proofs.lemmas.Iterator.Consumers.{YieldsList-from_filter, count_from_yields_List}
+use Rattle.std.proofs.lemmas.List.Sums.{length-filter, count_by-le-length}
+use Rattle.file.specs.Making.{filtered_named}
 use Rattle.file.proofs.made.named_count.Goals as goal
 
-pub loop-n-init : goal.loop-n-init
-loop-n-init c = search (rules, counted_none)
-
-pub overflow_add-count : goal.overflow_add-count
-overflow_add-count c = omega (arith, counted_few c.loop-n.invariant, c.one_named-count.ensures.1)
-
-pub loop-n-preserved : goal.loop-n-preserved
-loop-n-preserved c = search (rules, counted_turn)
-
 pub returns : goal.returns
-returns c = search (rules, counted_few, counted_named)
+returns c =
+    let found : c.count.result ≡ length (filter (λ cost. not (eqb cost 1)) c.args.base.now) =
+    count_from_yields_List c.filter.result _ c.count.ensures.ran
+    (YieldsList-from_filter _ (λ cost. not (eqb cost 1)) (YieldsList-from_slice c.args.base.now cc) c.filter.ensures.closure (λ x r q k. search (rules, tests))) in
+    (found ∙ filtered_named c.args.base.now, omega (arith, length-filter (λ cost. not (eqb cost 1)) c.args.base.now, count_by-le-length (λ cost. not (eqb cost 1)) c.args.base.now))
