@@ -47,16 +47,16 @@ module _ (m : Measures) (marks : List ℕ)
   exceeds_not h = rw (← at, ← is, h)
 
 -- ---- the hall after a change
-module _ {m : Measures} {st : List ℕ} {n : ℕ} (c : Changeable m st n) where
-  pub changed_by : (cost : ℕ) {b s s' k k' : List ℕ} → b ≡ (hall_in m st).base → s ≡ (hall_in m st).scaled → s' ≡ rescaled m (set b n cost) (n / 100) s
+module _ {m : Measures} (st : List ℕ) (read : m ≡ measures_at st) where
+  pub changed_by : (n cost : ℕ) {b s s' k k' : List ℕ} → b ≡ (hall_in m st).base → s ≡ (hall_in m st).scaled → s' ≡ rescaled m (set b n cost) (n / 100) s
       → k ≡ marks_in m st → k' ≡ remarked m s' (n / 100) k → hall_of m (set b n cost) s' k' ≡ changed (decode st) n cost
   unfolding changed
-  changed_by cost {b} {s} {s'} {k} {k'} eb es es' ek ek' =
+  changed_by n cost {b} {s} {s'} {k} {k'} eb es es' ek ek' =
       let base : set b n cost ≡ set (hall_in m st).base n cost = ap (λ l. set l n cost) eb in
       let new : s' ≡ rescaled m (set (hall_in m st).base n cost) (n / 100) (hall_in m st).scaled = es' ∙ rw (base, es) in
       let marks : k' ≡ remarked m (rescaled m (set (hall_in m st).base n cost) (n / 100) (hall_in m st).scaled) (n / 100) (marks_in m st) = ek' ∙ rw (new, ek) in
       let done : hall_of m (set b n cost) s' k' ≡ changed (hall_in m st) n cost = λ i. record { measures = m; base = base i; scaled = new i; marks = marks i } in
-      done ∙ ap (λ h. changed h n cost) (hall_read st c.read)
+      done ∙ ap (λ h. changed h n cost) (hall_read st read)
 
 -- marks of ten bits
 mark_small : (m : Measures) (costs : List ℕ) (s : ℕ) (side : Side) → mark_of m costs s side ≤ 1023

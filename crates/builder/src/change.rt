@@ -4,10 +4,10 @@ ghost use Rattle.model.specs.Cells.{side_at, side_number};
 ghost use Rattle.model.specs.Sectors.{sectors, cells, beyond, has_beyond};
 ghost use Rattle.model.specs.Accepted.{Accepted};
 ghost use Rattle.model.specs.Windows.{window_count};
-ghost use Rattle.model.specs.Store.{decode};
 ghost use Rattle.model.specs.Change.{is_nearby, remarked, changed, exceeds_at, exceeds};
 ghost use Rattle.model.specs.Nearby.{at_nearby};
 ghost use Rattle.store.specs.Layout.{hall_of};
+ghost use Rattle.store.specs.Stored.{stored};
 ghost use Rattle.builder.specs.Around.{sector_fresh, sector_exceeds, place_exceeds};
 ghost use Rattle.builder.specs.Marks.{Small};
 ghost use Rattle.builder.specs.Parts.{Changeable, altered_number, altered_into};
@@ -20,7 +20,8 @@ use model::{Measures, Side};
 use portal::runs::window_count;
 use sector_cost::nearby::{is_nearby, is_there, nearby};
 use sector_cost::rescale;
-use store::layout::{base_part, scaled_part, write_hall};
+use store::layout::{Store, write_hall};
+use store::opened::Opened;
 
 // Marks the four sides of sector s afresh.
 fn remark_sector(m: Measures, costs: &[u8], s: usize, marks: &mut [u16])
@@ -140,22 +141,23 @@ fn any_exceeds(m: Measures, marks: &[u16], t: usize) -> bool
 
 // The hall of a store after a change, in lent lists.
 fn change_lists(
-    st: &[u8],
-    m: Measures,
+    hall: &Opened<'_>,
     n: usize,
     cost: u8,
     base: &mut [u8],
     scaled: &mut [u8],
     marks: &mut [u16],
 )
-    requires { Changeable m st.now n × (length base.old ≡ cells m) × (length scaled.old ≡ cells m) × (length marks.old ≡ sectors m * 4) }
-    ensures { hall_of m base.new scaled.new marks.new ≡ changed (decode st.now) n cost }
+    requires { (n < cells hall.now.store.measures) × (length base.old ≡ cells hall.now.store.measures) × (length scaled.old ≡ cells hall.now.store.measures) × (length marks.old ≡ sectors hall.now.store.measures * 4) }
+    ensures { hall_of hall.now.store.measures base.new scaled.new marks.new ≡ changed (stored hall.now) n cost }
 {
-    base.copy_from_slice(base_part(st, m));
+    let store = hall.store;
+    let m = store.measures;
+    base.copy_from_slice(store.base());
     base[n] = cost;
-    scaled.copy_from_slice(scaled_part(st, m));
+    scaled.copy_from_slice(store.scaled());
     rescale(m, base, n / 100, scaled);
-    take_marks(st, m, marks);
+    take_marks(&store, marks);
     remark(m, scaled, n / 100, marks);
 }
 
@@ -172,7 +174,13 @@ fn change_in(
     requires { Changeable m st.old n × (length base.old ≡ cells m) × (length scaled.old ≡ cells m) × (length marks.old ≡ sectors m * 4) }
     ensures { (result ≡ altered_number st.old n cost) × (st.new ≡ altered_into st.old n cost) }
 {
-    change_lists(st, m, n, cost, base, scaled, marks);
+    let hall = Opened {
+        store: Store {
+            measures: m,
+            bytes: st,
+        },
+    };
+    change_lists(&hall, n, cost, base, scaled, marks);
     if any_exceeds(m, marks, n / 100) {
         return 22;
     }

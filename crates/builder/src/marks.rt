@@ -1,34 +1,34 @@
 // Lists of marks: those of a store, and those that the costs give.
-ghost use Rattle.std.specs.Prelude.{◌≡◌, ◌*◌, ◌≤◌, ◌<◌, length};
+ghost use Rattle.std.specs.Prelude.{◌≡◌, ◌*◌, ◌<◌, length};
 ghost use Rattle.laws.specs.Each.{each};
 ghost use Rattle.model.specs.Sectors.{sectors};
 ghost use Rattle.model.specs.Accepted.{Accepted};
 ghost use Rattle.model.specs.Windows.{marks_of};
-ghost use Rattle.model.specs.Store.{size_of, marks_in};
+ghost use Rattle.store.specs.Stored.{held};
 ghost use Rattle.builder.specs.Marks.{kept, fresh};
 
 use fields::sides::side_at;
 use model::Measures;
 use portal::marks::side_mark;
-use store::layout::mark_in;
+use store::layout::Store;
 
 // Takes mark k over from a store.
-fn take_mark(st: &[u8], m: Measures, k: usize, marks: &mut [u16])
-    requires { Accepted m × (size_of m ≤ length st.now) × (k < sectors m * 4) × (length marks.old ≡ sectors m * 4) }
-    ensures { marks.new ≡ each (kept m st.now) k marks.old }
+fn take_mark(store: &Store<'_>, k: usize, marks: &mut [u16])
+    requires { (k < sectors store.now.measures * 4) × (length marks.old ≡ sectors store.now.measures * 4) }
+    ensures { marks.new ≡ each (kept store.now.measures store.now.bytes.now) k marks.old }
 {
-    marks[k] = mark_in(st, m, k);
+    marks[k] = store.mark(k);
 }
 
 // Takes all marks over from a store.
-pub fn take_marks(st: &[u8], m: Measures, marks: &mut [u16])
-    requires { Accepted m × (size_of m ≤ length st.now) × (length marks.old ≡ sectors m * 4) }
-    ensures { marks.new ≡ marks_in m st.now }
+pub fn take_marks(store: &Store<'_>, marks: &mut [u16])
+    requires { length marks.old ≡ sectors store.now.measures * 4 }
+    ensures { marks.new ≡ (held store.now).marks }
 {
     let n = marks.len();
     let mut k = 0;
     while k < n {
-        take_mark(st, m, k, marks);
+        take_mark(store, k, marks);
         k += 1;
     }
 }

@@ -5,7 +5,7 @@ use Rattle.builder.proofs.change.change_lists.Goals as goal
 
 pub returns : goal.returns
 returns c =
-    changed_by c.requires.0 _
-    (c.copy_from_slice.ensures.after ∙ c.base_part.ensures.0)
-    (c.copy_from_slice-2.ensures.after ∙ c.scaled_part.ensures.0)
+    changed_by _ c.args.hall.now.opened.read _ _
+    (c.copy_from_slice.ensures.after ∙ c.base.ensures.0)
+    (c.copy_from_slice-2.ensures.after ∙ c.scaled.ensures.0)
     c.rescale.ensures c.take_marks.ensures c.remark.ensures

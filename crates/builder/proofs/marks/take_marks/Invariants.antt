@@ -6,7 +6,7 @@ use Rattle.builder.specs.Marks.{kept}
 use Rattle.builder.proofs.marks.take_marks.Given as goal
 
 abbrev pub invariant-loop-k : goal.invariant-loop-k
-invariant-loop-k l = Ran (each (kept l.m l.st)) l.n l.k l.initial.marks l.marks
+invariant-loop-k l = Ran (each (kept l.store.measures l.store.bytes.now)) l.n l.k l.initial.marks l.marks
 
 abbrev pub decreases-loop-k : goal.decreases-loop-k
 decreases-loop-k l = l.n - l.k
