@@ -3,30 +3,26 @@ ghost use Rattle.std.specs.Prelude.{◌≡◌, ◌/◌, length};
 ghost use Rattle.model.specs.Calls.{windows_flat};
 ghost use Rattle.model.specs.Answers.{WindowsAnswers};
 
-use crate::check::check_store;
-use fields::numbers::byte;
+use crate::check::open_store;
 use fields::sectors::sectors;
 use model::Listed;
 use portal::windows::{sector_windows, windows_number};
-use store::layout::sector_marks;
-use store::reading::measures_at;
 
 // Lists the windows of a sector, N, E, S, W, three bytes each: first cell, last cell and side. A refusal leaves the list as it was.
 pub fn windows(st: &[u8], sector: usize, list: &mut [u8]) -> Listed
     ensures answer { WindowsAnswers st.now sector (length list.old / 3) result }
     ensures listed { list.new ≡ windows_flat st.now sector list.old }
 {
-    let no = check_store(st);
-    if 0 < no {
-        return Listed::Refused(no);
-    }
-    let m = measures_at(st);
-    if sectors(m) <= sector {
+    let hall = match open_store(st) {
+        Ok(hall) => hall,
+        Err(no) => return Listed::Refused(no),
+    };
+    if sectors(hall.store.measures) <= sector {
         return Listed::Refused(26);
     }
-    let marks = sector_marks(st, m, sector);
+    let marks = hall.store.sector_marks(sector);
     if list.len() / 3 < windows_number(marks) {
         return Listed::Refused(27);
     }
-    Listed::Windows(byte(sector_windows(list, marks)))
+    Listed::Windows(sector_windows(list, marks) as u8)
 }

@@ -1,0 +1,48 @@
+-- `open_store` climbs the ladder of the store check: each return goes by what the tests before it found, and at the end all are passed.
+use Rattle.std.proofs.Common.{◌≡◌, sym, arith}
+use borrow.Author.Tests.{lt-ltb, le-ltb, ltb-false}
+use Rattle.laws.specs.Ladder.{refuse_here, refuse_past, flag}
+use Rattle.model.specs.Accepted.{accepted}
+use Rattle.model.specs.Calls.{check_number}
+use Rattle.model.specs.Checked.{checked}
+use Rattle.store.specs.Checks.{sectors_found, scale_found, room_found, marks_found}
+use Rattle.hall.proofs.Passed.{fourth_bad, fourth_good}
+use borrow.Author.Rules.{rules}
+use Rattle.hall.proofs.check.open_store.Goals as goal
+
+pub returns-then-st-lt4-clause-refused : goal.returns-then-st-lt4-clause-refused
+unfolding check_number
+returns-then-st-lt4-clause-refused c = (search (rules, refuse_here, lt-ltb), omega arith)
+
+pub returns-then-bad_sectors-clause-refused : goal.returns-then-bad_sectors-clause-refused
+unfolding check_number
+returns-then-bad_sectors-clause-refused c = (search (rules, refuse_here, refuse_past, le-ltb, sectors_found) depth 20, omega arith)
+
+pub returns-then-bad_scale-clause-refused : goal.returns-then-bad_scale-clause-refused
+unfolding check_number
+returns-then-bad_scale-clause-refused c = (search (rules, refuse_here, refuse_past, le-ltb, sectors_found, scale_found) depth 20, omega arith)
+
+pub returns-then-fourth_byte-gt0-clause-refused : goal.returns-then-fourth_byte-gt0-clause-refused
+unfolding check_number
+returns-then-fourth_byte-gt0-clause-refused c = (search (rules, refuse_here, refuse_past, le-ltb, sectors_found, scale_found, fourth_bad) depth 20, omega arith)
+
+pub returns-then-too_short-clause-refused : goal.returns-then-too_short-clause-refused
+unfolding check_number
+returns-then-too_short-clause-refused c = (search (rules, refuse_here, refuse_past, le-ltb, sectors_found, scale_found, fourth_good, room_found) depth 20, omega arith)
+
+pub invariant_of-store : goal.invariant_of-store
+invariant_of-store c = record {
+  accepted = accepted _ (flag c.bad_sectors.ensures c.if-bad_sectors.false) (flag c.bad_scale.ensures c.if-bad_scale.false);
+  fits = ltb-false _ _ (flag c.too_short.ensures c.if-too_short.false);
+}
+
+pub returns-then-any_bad_mark-clause-refused : goal.returns-then-any_bad_mark-clause-refused
+unfolding check_number
+returns-then-any_bad_mark-clause-refused c =
+    (search (rules, refuse_here, refuse_past, le-ltb, sectors_found, scale_found, fourth_good, room_found, marks_found) depth 20, omega arith)
+
+pub invariant_of-result : goal.invariant_of-result
+unfolding check_number
+invariant_of-result c =
+    let none : 0 ≡ check_number c.args.st.now = search (rules, refuse_past, le-ltb, sectors_found, scale_found, fourth_good, room_found, marks_found) depth 20 in
+    record { opened = record { passes = checked _ (sym none); read = c.measures_at-measures.ensures } }
