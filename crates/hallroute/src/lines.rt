@@ -29,7 +29,9 @@ pub fn next_line(st: &[u8], pairs: &[u8], at: usize, steps: &mut [u8], line: &mu
     if pairs.len() - at < 4 {
         return put_text(line, 0, b"cut\n");
     }
-    pair_line(st, u16_at(pairs, at), u16_at(pairs, at + 2), steps, line)
+    let source = usize::from(u16_at(pairs, at));
+    let goal = usize::from(u16_at(pairs, at + 2));
+    pair_line(st, source, goal, steps, line)
 }
 
 // The line of a refused hall file.

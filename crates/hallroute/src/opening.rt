@@ -18,7 +18,7 @@ pub fn file_size(input: &[u8]) -> usize
     if input.len() < 5 {
         return input.len();
     }
-    let size = 5 + 3 * u16_at(input, 3);
+    let size = 5 + 3 * usize::from(u16_at(input, 3));
     if input.len() < size {
         return input.len();
     }

@@ -9,6 +9,6 @@ returns-then-pairs-at-lt4 c =
 
 pub returns : goal.returns
 returns c =
-    let both = pair_line_lem _ _ _ _ c.if-pairs-at-lt4.false c.u16_at.ensures.0 c.u16_at-2.ensures.0 c.pair_line.ensures.size.0 c.pair_line.ensures.size.1
+    let both = pair_line_lem _ _ _ _ c.if-pairs-at-lt4.false c.u16_at.ensures c.u16_at-2.ensures c.pair_line.ensures.size.0 c.pair_line.ensures.size.1
     c.pair_line.ensures.written in
     record { size = both.0; written = both.1 }

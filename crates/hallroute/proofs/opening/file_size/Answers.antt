@@ -4,10 +4,10 @@ use borrow.Author.Rules.{rules}
 use Rattle.hallroute.proofs.opening.file_size.Goals as goal
 
 pub returns-then-input-size : goal.returns-then-input-size
-returns-then-input-size c = size_all _ c.u16_at.ensures.0 c.if-input-lt5.false c.if-input-size.true
+returns-then-input-size c = size_all _ c.u16_at.ensures c.if-input-lt5.false c.if-input-size.true
 
 pub returns : goal.returns
-returns c = size_counted _ c.u16_at.ensures.0 c.if-input-lt5.false c.if-input-size.false
+returns c = size_counted _ c.u16_at.ensures c.if-input-lt5.false c.if-input-size.false
 
 pub returns-then-input-lt5 : goal.returns-then-input-lt5
 returns-then-input-lt5 c = search (rules, size_head)
