@@ -5,6 +5,3 @@ use Rattle.walks.proofs.board.show_row.Given as goal
 
 abbrev pub invariant-loop-c : goal.invariant-loop-c
 invariant-loop-c l = (l.c ≤ l.m.columns) × Showing l.m l.costs (row_start l.y + l.c * 10) l.board
-
-abbrev pub decreases-loop-c : goal.decreases-loop-c
-decreases-loop-c l = l.m.columns - l.c
