@@ -15,7 +15,7 @@ ghost use Rattle.walks.specs.Walks.{Shows};
 
 use crate::nearby::{PLACES, nearby};
 use fields::copies::copy_part;
-use fields::costs::open_at;
+use fields::costs::is_open;
 use fields::sectors::{SECTOR_CELLS, sectors};
 use model::Measures;
 use walks::board::{corner, show_floor, walls};
@@ -24,11 +24,11 @@ use walks::walk::{Start, scale_in_directions};
 // The eight walks from a cell, if it is base-blocked.
 #[tactic(auto, unfolding(model::specs::Scaling::scale_cell))]
 fn scale_cell(m: Measures, base: &[u8], from: Start, scaled: &mut [u8], board: &mut [u8])
-    requires { Shows m from.sector from.corner scaled.old board.old }
+    requires { Costs m base.now × Shows m from.sector from.corner scaled.old board.old }
     ensures list { scaled.new ≡ scale_cell m base.now from.sector from.index scaled.old }
     ensures shown { Shows m from.sector from.corner scaled.new board.new }
 {
-    if !open_at(base, from.sector * SECTOR_CELLS + from.index) {
+    if !is_open(base, from.sector * SECTOR_CELLS + from.index) {
         scale_in_directions(m, from, scaled, board);
     }
 }
@@ -36,7 +36,7 @@ fn scale_cell(m: Measures, base: &[u8], from: Start, scaled: &mut [u8], board: &
 // The cells of a sector, in index order.
 #[tactic(auto, using(laws::specs::Fold::counting), unfolding(model::specs::Scaling::scale_sector))]
 fn scale_costfield(m: Measures, base: &[u8], sector: usize, scaled: &mut [u8], board: &mut [u8])
-    requires { Costs m scaled.old × (sector < sectors m) × (board.old ≡ board_of m scaled.old) }
+    requires { Costs m base.now × Costs m scaled.old × (sector < sectors m) × (board.old ≡ board_of m scaled.old) }
     ensures list { scaled.new ≡ scale_sector m base.now sector scaled.old }
     ensures shown { board.new ≡ board_of m scaled.new }
 {
@@ -54,7 +54,7 @@ fn scale_costfield(m: Measures, base: &[u8], sector: usize, scaled: &mut [u8], b
 // The sectors, in number order.
 #[tactic(auto, using(laws::specs::Fold::counting))]
 fn scale_sectors(m: Measures, base: &[u8], scaled: &mut [u8], board: &mut [u8])
-    requires { Costs m scaled.old × (board.old ≡ board_of m scaled.old) }
+    requires { Costs m base.now × Costs m scaled.old × (board.old ≡ board_of m scaled.old) }
     ensures { scaled.new ≡ run (scale_sector m base.now) (sectors m) scaled.old }
 {
     for s in 0..sectors(m) {
@@ -102,7 +102,7 @@ fn reset_nearby(m: Measures, base: &[u8], t: usize, scaled: &mut [u8])
 // Rescales the sectors around t.
 #[tactic(auto, using(laws::specs::Fold::counting, model::specs::Nearby::nearby_lt))]
 fn scale_nearby(m: Measures, base: &[u8], t: usize, scaled: &mut [u8], board: &mut [u8])
-    requires { Costs m scaled.old × (t < sectors m) × (board.old ≡ board_of m scaled.old) }
+    requires { Costs m base.now × Costs m scaled.old × (t < sectors m) × (board.old ≡ board_of m scaled.old) }
     ensures { scaled.new ≡ run (at_nearby m t (scale_sector m base.now)) 9 scaled.old }
 {
     for k in 0..PLACES {

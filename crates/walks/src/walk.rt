@@ -8,8 +8,8 @@ ghost use Rattle.walks.specs.Lines.{Line, blocked_on};
 ghost use Rattle.walks.specs.Board.{stride};
 ghost use Rattle.walks.specs.Walks.{block_spot, Shows};
 
-use fields::costs::{BLOCKED, open_at};
-use fields::directions::{DIRECTIONS, Shift, shift_of};
+use fields::costs::{BLOCKED, is_open};
+use fields::directions::shift_of;
 use model::{CompassDir, Measures};
 
 // Where walks begin: a cell of a sector, and the place of the board that shows the sector's first cell.
@@ -34,7 +34,7 @@ fn walk_line(board: &[u8], a: usize, step: usize, n: usize) -> Option<usize>
             break 'walk None;
         }
         at = at + step - 121;
-        if !open_at(board, at) {
+        if !is_open(board, at) {
             break 'walk Some(passed);
         }
         passed += 1;
@@ -104,7 +104,12 @@ pub fn scale_in_directions(m: Measures, from: Start, scaled: &mut [u8], board: &
     ensures list { scaled.new ≡ run (walk m from.sector from.index) 8 scaled.old }
     ensures shown { Shows m from.sector from.corner scaled.new board.new }
 {
-    for d in DIRECTIONS {
-        scale_in_compass_direction(m, from, d, scaled, board);
-    }
+    scale_in_compass_direction(m, from, CompassDir::North, scaled, board);
+    scale_in_compass_direction(m, from, CompassDir::East, scaled, board);
+    scale_in_compass_direction(m, from, CompassDir::South, scaled, board);
+    scale_in_compass_direction(m, from, CompassDir::West, scaled, board);
+    scale_in_compass_direction(m, from, CompassDir::NorthEast, scaled, board);
+    scale_in_compass_direction(m, from, CompassDir::SouthEast, scaled, board);
+    scale_in_compass_direction(m, from, CompassDir::SouthWest, scaled, board);
+    scale_in_compass_direction(m, from, CompassDir::NorthWest, scaled, board);
 }
