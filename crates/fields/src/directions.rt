@@ -6,7 +6,7 @@ ghost use Rattle.model.specs.Directions.{compass, eastward, southward, shifted, 
 use model::{CompassDir, Measures};
 
 // The directions in document 01's order.
-pub const DIRECTIONS: [CompassDir; 8] = [
+const DIRECTIONS: [CompassDir; 8] = [
     CompassDir::North,
     CompassDir::East,
     CompassDir::South,

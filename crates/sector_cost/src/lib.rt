@@ -86,7 +86,7 @@ fn reset_sector(base: &[u8], s: usize, scaled: &mut [u8])
     copy_part(base, a, SECTOR_CELLS, a, scaled);
 }
 
-// Resets the sectors around t.
+// Resets the sectors around t. This loop and the next stay two: a closure over lists that it changes is no plainer, and its proof is longer.
 #[tactic(auto, using(laws::specs::Fold::counting, model::specs::Nearby::nearby_lt))]
 fn reset_nearby(m: Measures, base: &[u8], t: usize, scaled: &mut [u8])
     requires { Costs m base.now × Costs m scaled.old × (t < sectors m) }
@@ -113,6 +113,8 @@ fn scale_nearby(m: Measures, base: &[u8], t: usize, scaled: &mut [u8], board: &m
 }
 
 // After a change in sector t: it and its up to eight surrounding sectors are reset, and only then rescaled, t first. At scale 1 no walk blocks a cell.
+// Never put into its caller, in which LLVM then clears 20,000 bytes that it fills afterwards.
+#[inline(never)]
 pub fn rescale(m: Measures, base: &[u8], t: usize, scaled: &mut [u8])
     requires { Costs m base.now × Costs m scaled.old × (t < sectors m) }
     ensures { scaled.new ≡ rescaled m base.now t scaled.old }

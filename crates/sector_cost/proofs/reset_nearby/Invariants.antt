@@ -1,5 +1,4 @@
 -- `reset_nearby` is the run over its places.
-use Prim.Native.Nat.{◌-◌}
 use Rattle.laws.specs.Fold.{Ran}
 use Rattle.model.specs.Change.{reset_sector}
 use Rattle.model.specs.Nearby.{at_nearby}

@@ -1,5 +1,4 @@
 -- `scale_costfield` is the run over the cells of a sector.
-use Prim.Native.Nat.{◌-◌}
 use Rattle.laws.specs.Fold.{Ran}
 use Rattle.model.specs.Scaling.{scale_cell}
 use Rattle.walks.specs.Walks.{Shows}

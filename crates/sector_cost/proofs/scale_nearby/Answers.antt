@@ -1,8 +1,7 @@
 -- `scale_nearby` is the run over its places.
-use mathlib.Core.Path.{◌∙◌, ap}
+use mathlib.Core.Path.{◌∙◌}
 use Rattle.laws.specs.Fold.{ran_turn, counting}
 use Rattle.model.specs.Scaling.{scale_sector}
-use Rattle.walks.specs.Board.{board_of}
 use Rattle.sector_cost.specs.Places.{place_some, place_none}
 use borrow.Author.Rules.{rules}
 use Rattle.sector_cost.proofs.scale_nearby.Goals as goal

@@ -1,5 +1,4 @@
 -- `scale_nearby` is the run over its places.
-use Prim.Native.Nat.{◌-◌}
 use mathlib.Core.Path.{◌≡◌}
 use Rattle.laws.specs.Fold.{Ran}
 use Rattle.model.specs.Scaling.{scale_sector}

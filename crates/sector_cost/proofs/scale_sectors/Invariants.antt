@@ -1,5 +1,4 @@
 -- `scale_sectors` is the run over its sectors.
-use Prim.Native.Nat.{◌-◌}
 use mathlib.Core.Path.{◌≡◌}
 use Rattle.laws.specs.Fold.{Ran}
 use Rattle.model.specs.Sectors.{sectors}

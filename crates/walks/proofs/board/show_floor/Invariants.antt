@@ -1,5 +1,5 @@
 -- `show_floor` shows the floor row by row; before its first row and after its last there are walls.
-use Prim.Native.Nat.{◌-◌, ◌*◌, ◌≤◌}
+use Prim.Native.Nat.{◌*◌, ◌≤◌}
 use Rattle.walks.specs.Showing.{Showing, row_start}
 use Rattle.walks.proofs.board.show_floor.Given as goal
 

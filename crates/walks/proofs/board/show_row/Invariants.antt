@@ -1,5 +1,5 @@
 -- `show_row` shows a row ten cells at a time; past its last sector there are walls.
-use Prim.Native.Nat.{◌+◌, ◌-◌, ◌*◌, ◌≤◌}
+use Prim.Native.Nat.{◌+◌, ◌*◌, ◌≤◌}
 use Rattle.walks.specs.Showing.{Showing, row_start}
 use Rattle.walks.proofs.board.show_row.Given as goal
 
