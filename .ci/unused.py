@@ -3,7 +3,7 @@
 
 unused.py [CRATE..]    all crates, or the ones named
 
-A name is used where another file brings it in by `use`, writes it behind its module, or calls it; where the statement of a used name
+A name is used where another file brings it in by `use`, writes it behind its module, or calls it; where a `#[tactic(..)]` of a source names it; where the statement of a used name
 of its own file, the text of a used definition, or a used ruleset mentions it; and where KEPT says who else reads it.
 """
 import pathlib
@@ -43,6 +43,8 @@ KEPT = {
     "model/specs/RouteChosen.antt:chosen_leads": "01's choice of a pair, for its reader",
     "model/specs/RouteChosen.antt:chosen_none": "01's choice of a pair, for its reader",
     "model/specs/WindowRuns.antt:in_order": "01's order of windows, for its reader",
+    "fields/specs/Bits.antt:with_open": UNCITED,
+    "fields/specs/Bits.antt:with_shut": UNCITED,
     "fields/specs/Bounds.antt:bytes_product": UNCITED,
     "file/specs/Making.antt:open_with": UNCITED,
     "graph/specs/EdgeTable.antt:row_none": UNCITED,
@@ -61,6 +63,7 @@ KEPT = {
     "laws/specs/Turns.antt:lined_skip": UNCITED,
     "laws/specs/Turns.antt:lined_take": UNCITED,
     "laws/specs/Turns.antt:lined_alone": UNCITED,
+    "model/specs/CostsRead.antt:open_off": UNCITED,
     "path/specs/Following.antt:walk_long": UNCITED,
     "records/specs/Filling.antt:filled_length": UNCITED,
     "search/specs/Searching.antt:searched_in": UNCITED,
@@ -74,6 +77,7 @@ SPLIT = re.compile(r"[\s(){}\[\],;.⌜⌝⟦⟧:]+")
 DECLARED = re.compile(r"^( *)(?:abbrev |unfoldable )?pub (record |data |ruleset )?(\S+)")
 USE = re.compile(r"\buse ([^\s{};]+?)(?:\.\{([^}]*)\}| as (\S+?))?;?$")
 MODULE = re.compile(r"Rattle\.(\w+)\.(.*)$")
+TACTIC = re.compile(r"#\[tactic\(.*?\)\]", re.S)
 MARKS = r"(?:pub |abbrev |unfoldable |record |data |ruleset |fn |struct |enum |const )"
 
 
@@ -138,11 +142,22 @@ def names_brought(lines):
     return out
 
 
+def names_told(path, lines):
+    """{(crate, module): names} that the attributes of a source tell the check."""
+    out = {}
+    for attribute in TACTIC.findall("\n".join(lines)) if path.suffix == ".rt" else []:
+        for crate, module, name in re.findall(r"(\w+)::((?:specs|proofs)(?:::\w+)*)::(\w+)", attribute):
+            crate = path.relative_to(CRATES).parts[0] if crate == "crate" else crate
+            out.setdefault((crate, module.replace("::", ".")), set()).add(name)
+    return out
+
+
 def all_brought(lines):
     used = {}
     for path in lines:
-        for module, names in names_brought(lines[path]).items():
-            used.setdefault(module, set()).update(names)
+        for found in (names_brought(lines[path]), names_told(path, lines[path])):
+            for module, names in found.items():
+                used.setdefault(module, set()).update(names)
     return used
 
 

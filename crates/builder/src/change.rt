@@ -18,7 +18,7 @@ use fields::sectors::{beyond, cells, has_beyond, sectors};
 use fields::sides::{opposite, side_at, side_number};
 use model::{Measures, Side};
 use portal::runs::window_count;
-use sector_cost::nearby::{is_nearby, is_there, nearby};
+use sector_cost::nearby::{is_nearby, nearby};
 use sector_cost::rescale;
 use store::layout::{Store, write_hall};
 use store::opened::Opened;
@@ -36,12 +36,13 @@ fn remark_sector(m: Measures, costs: &[u8], s: usize, marks: &mut [u16])
 }
 
 // Marks place k of the sectors around t afresh, if there is one.
+#[tactic(auto, using(model::specs::Nearby::nearby_lt))]
 fn remark_place(m: Measures, costs: &[u8], t: usize, k: usize, marks: &mut [u16])
     requires { Accepted m × (t < sectors m) × (length marks.old ≡ sectors m * 4) }
     ensures { marks.new ≡ at_nearby m t (sector_fresh m costs.now) k marks.old }
 {
-    if is_there(m, t, k) {
-        remark_sector(m, costs, nearby(m, t, k), marks);
+    if let Some(s) = nearby(m, t, k) {
+        remark_sector(m, costs, s, marks);
     }
 }
 
@@ -114,14 +115,15 @@ fn sector_exceeds(m: Measures, marks: &[u16], t: usize, s: usize) -> bool
 }
 
 // Whether the sector at place k around t has, if there is one.
+#[tactic(auto, using(model::specs::Nearby::nearby_lt, crate::proofs::Around::place_near))]
 fn place_exceeds(m: Measures, marks: &[u16], t: usize, k: usize) -> bool
     requires { Accepted m × Small marks.now × (t < sectors m) × (k < 9) }
     ensures { result ≡ place_exceeds (hall_of m [] [] marks.now) t k }
 {
-    if is_there(m, t, k) {
-        return sector_exceeds(m, marks, t, nearby(m, t, k));
+    match nearby(m, t, k) {
+        Some(s) => sector_exceeds(m, marks, t, s),
+        None => false,
     }
-    false
 }
 
 // Whether any side has. Only sides of the sectors around t can.

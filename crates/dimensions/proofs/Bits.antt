@@ -13,6 +13,8 @@ use lib.Ieee.Bits.{of_bits-to_bits}
 use lib.Ieee.Exact.{HasValue, odd_sign}
 use lib.Ieee.Nearest.{div_same}
 use borrow.Author.Tests.{leb-false, ltb-false, ne_eqb}
+use Rattle.std.specs.Int.{div_ceil}
+use Rattle.std.proofs.lemmas.Grind.{div_ceil_times}
 use Rattle.model.specs.Measuring.{fzero, cut_down, round_up}
 
 -- ---- equal fractions round up alike
@@ -30,6 +32,13 @@ up_scale a b k hb hk =
 up_same : (a b c d : ℕ) → 0 < b → 0 < d → a * d ≡ c * b → (a + (b - 1)) / b ≡ (c + (d - 1)) / d
 up_same a b c d hb hd e =
     sym (up_scale a b d hb hd) ∙ ap₂ (λ (x y : ℕ). (x + (y - 1)) / y) e (mul_comm b d) ∙ up_scale c d b hd hb
+
+-- std's division that rounds up
+ceil_is : (a b : ℕ) → 0 < b → (a + (b - 1)) / b ≡ div_ceil a b
+ceil_is a b h =
+    let k = div_ceil a b in
+    let t = div_ceil_times a b h in
+    div-eq_of_lt-le {k = k} b (omega arith) (omega (arith, suc-mul k b))
 
 -- ---- the whole neighbours of a value that is a / c
 whole_of : (v : Float) (a c : ℕ) → 0 < c → HasValue v false a c → (cut_down v ≡ a / c) × (round_up v ≡ (a + (c - 1)) / c)
@@ -186,12 +195,13 @@ module _ (v : Float) (f : fits binary32 v ≡ true) (p : lt fzero v ≡ true) wh
   pub near_large : 130 < field v → Near v 16 16
   near_large l = subst (λ (x : Float). Near x 16 16) (sym by_fields) (fields_large (field v) (rest v) l (sym (ap (lt fzero) by_fields) ∙ p))
 
-  pub near_digits : 127 ≤ field v → field v ≤ 130 → Near v (digits v / part v) ((digits v + (part v - 1)) / part v)
+  pub near_digits : 127 ≤ field v → field v ≤ 130 → Near v (digits v / part v) (div_ceil (digits v) (part v))
   near_digits l h =
       let x = 126 + (field v - 127) in
       let e : field v ≡ suc x = omega arith in
       let k = part_at (field v - 127) (omega arith) in
       let w : v ≡ of_fields binary32 false (suc x) (rest v) = by_fields ∙ ap (λ (y : ℕ). of_fields binary32 false y (rest v)) e in
-      over v (digits v * 2 ^ x) (2 ^ 149) (digits v) (part v) (pow_pos 149) (omega (arith, k.low))
+      let near = over v (digits v * 2 ^ x) (2 ^ 149) (digits v) (part v) (pow_pos 149) (omega (arith, k.low))
       (mul_assoc (digits v) (2 ^ x) (part v) ∙ ap (λ (y : ℕ). digits v * y) k.weight) (omega (arith, k.low))
-      (subst (λ (y : Float). HasValue y false (digits v * 2 ^ x) (2 ^ 149)) (sym w) (value x (rest v) (omega arith)))
+      (subst (λ (y : Float). HasValue y false (digits v * 2 ^ x) (2 ^ 149)) (sym w) (value x (rest v) (omega arith))) in
+      rw (ceil_is (digits v) (part v) (omega (arith, k.low))) at near

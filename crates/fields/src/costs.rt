@@ -5,7 +5,8 @@ ghost use Rattle.model.specs.Costs.{open_at};
 // The cost of a blocked cell.
 pub const BLOCKED: u8 = 255;
 
-// Whether a cell of the list is open.
+// Whether a cell of the list is open. It stands beside `open_at` for scaling, which took 20 % more instructions by that one's test of the number.
+#[tactic(auto, using(model::specs::CostsRead::open_here))]
 pub fn is_open(costs: &[u8], n: usize) -> bool
     requires { n < length costs.now }
     ensures { result ≡ open_at costs.now n }
@@ -14,11 +15,9 @@ pub fn is_open(costs: &[u8], n: usize) -> bool
 }
 
 // Whether a cell is open; a number past the list counts as blocked.
+#[tactic(auto, unfolding(model::specs::Costs::open_at))]
 pub fn open_at(costs: &[u8], n: usize) -> bool
     ensures { result ≡ open_at costs.now n }
 {
-    if n < costs.len() {
-        return is_open(costs, n);
-    }
-    false
+    costs.get(n).is_some_and(|cost| *cost != BLOCKED)
 }

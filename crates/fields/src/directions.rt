@@ -1,85 +1,69 @@
 // The eight directions, and the sectors that they lead to.
 ghost use Rattle.std.specs.Prelude.{◌≡◌, ◌≤◌};
+ghost use Rattle.std.specs.Bool.{then_some};
 ghost use Rattle.model.specs.Directions.{compass, eastward, southward, shifted, on_axis, on_floor};
 
-use crate::numbers::{less, wide};
 use model::{CompassDir, Measures};
 
-// The directions by number: N, E, S, W, NE, SE, SW, NW.
+// The directions in document 01's order.
+const DIRECTIONS: [CompassDir; 8] = [
+    CompassDir::North,
+    CompassDir::East,
+    CompassDir::South,
+    CompassDir::West,
+    CompassDir::NorthEast,
+    CompassDir::SouthEast,
+    CompassDir::SouthWest,
+    CompassDir::NorthWest,
+];
+
+// Direction k; a number past the last stands for the last.
 pub fn compass(k: usize) -> CompassDir
     ensures { result ≡ compass k }
 {
-    match k {
-        0 => CompassDir::North,
-        1 => CompassDir::East,
-        2 => CompassDir::South,
-        3 => CompassDir::West,
-        4 => CompassDir::NorthEast,
-        5 => CompassDir::SouthEast,
-        6 => CompassDir::SouthWest,
-        _ => CompassDir::NorthWest,
-    }
+    DIRECTIONS[k.min(7)]
 }
 
-// What one step does to the column, plus one.
-pub fn eastward(d: CompassDir) -> usize
-    ensures { result ≡ eastward d }
-{
-    match d {
-        CompassDir::North => 1,
-        CompassDir::East => 2,
-        CompassDir::South => 1,
-        CompassDir::West => 0,
-        CompassDir::NorthEast => 2,
-        CompassDir::SouthEast => 2,
-        CompassDir::SouthWest => 0,
-        CompassDir::NorthWest => 0,
-    }
+// What one step does to the column and to the row, plus one: 0 back, 1 nothing, 2 on.
+#[derive(Clone, Copy)]
+pub struct Shift {
+    pub east: usize,
+    pub south: usize,
+    ghost small: { (east ≤ 2) × (south ≤ 2) },
 }
 
-// What one step does to the row, plus one.
-pub fn southward(d: CompassDir) -> usize
-    ensures { result ≡ southward d }
+pub fn shift_of(d: CompassDir) -> Shift
+    ensures { (result.east ≡ eastward d) × (result.south ≡ southward d) }
 {
-    match d {
-        CompassDir::North => 0,
-        CompassDir::East => 1,
-        CompassDir::South => 2,
-        CompassDir::West => 1,
-        CompassDir::NorthEast => 0,
-        CompassDir::SouthEast => 2,
-        CompassDir::SouthWest => 2,
-        CompassDir::NorthWest => 0,
-    }
+    let (east, south) = match d {
+        CompassDir::North => (1, 0),
+        CompassDir::East => (2, 1),
+        CompassDir::South => (1, 2),
+        CompassDir::West => (0, 1),
+        CompassDir::NorthEast => (2, 0),
+        CompassDir::SouthEast => (2, 2),
+        CompassDir::SouthWest => (0, 2),
+        CompassDir::NorthWest => (0, 0),
+    };
+    Shift { east, south }
 }
 
 // Whether place n - 1 lies on an axis so many places wide.
 fn on_axis(n: usize, wide: usize) -> bool
     ensures { result ≡ on_axis n wide }
 {
-    if n < 1 {
-        return false;
-    }
-    n <= wide
+    1 <= n && n <= wide
 }
 
-// Whether a shift leads from sector s to a sector of the floor.
-pub fn on_floor(m: Measures, s: usize, east: usize, south: usize) -> bool
-    requires { (1 ≤ m.rows) × (s ≤ 10000) × (east ≤ 2) × (south ≤ 2) }
-    ensures { result ≡ on_floor m s east south }
+// The sector to which a shift leads from sector s, or None past the end of the floor.
+#[tactic(auto, unfolding(model::specs::Directions::on_floor))]
+pub fn towards(m: Measures, s: usize, by: Shift) -> Option<usize>
+    requires { (1 ≤ m.rows) × (s ≤ 10000) }
+    ensures { result ≡ then_some (on_floor m s by.east by.south) (shifted m s by.east by.south) }
 {
-    let rows = wide(m.rows);
-    if on_axis(s / rows + east, wide(m.columns)) {
-        return on_axis(s % rows + south, rows);
-    }
-    false
-}
-
-// The number of the sector to which a shift leads from sector s.
-pub fn shifted(m: Measures, s: usize, east: usize, south: usize) -> usize
-    requires { (1 ≤ m.rows) × (s ≤ 10000) × (east ≤ 2) × (south ≤ 2) }
-    ensures { result ≡ shifted m s east south }
-{
-    let rows = wide(m.rows);
-    less(s / rows + east, 1) * rows + less(s % rows + south, 1)
+    let rows = usize::from(m.rows);
+    let column = s / rows + by.east;
+    let row = s % rows + by.south;
+    let is_on_floor = on_axis(column, usize::from(m.columns)) && on_axis(row, rows);
+    is_on_floor.then_some(column.saturating_sub(1) * rows + row.saturating_sub(1))
 }

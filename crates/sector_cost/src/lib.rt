@@ -13,57 +13,52 @@ ghost use Rattle.walks.specs.Board.{board_of};
 ghost use Rattle.walks.specs.Costs.{Costs};
 ghost use Rattle.walks.specs.Walks.{Shows};
 
-use crate::nearby::{is_there, nearby};
+use crate::nearby::{PLACES, nearby};
 use fields::copies::copy_part;
 use fields::costs::is_open;
 use fields::sectors::{SECTOR_CELLS, sectors};
 use model::Measures;
 use walks::board::{corner, show_floor, walls};
-use walks::walk::scale_in_directions;
+use walks::walk::{Start, scale_in_directions};
 
 // The eight walks from a cell, if it is base-blocked.
-fn scale_cell(
-    m: Measures,
-    base: &[u8],
-    s: usize,
-    o: usize,
-    i: usize,
-    scaled: &mut [u8],
-    board: &mut [u8],
-)
-    requires { Costs m base.now × Shows m s o scaled.old board.old × (i < 100) }
-    ensures list { scaled.new ≡ scale_cell m base.now s i scaled.old }
-    ensures shown { Shows m s o scaled.new board.new }
+#[tactic(auto, unfolding(model::specs::Scaling::scale_cell))]
+fn scale_cell(m: Measures, base: &[u8], from: Start, scaled: &mut [u8], board: &mut [u8])
+    requires { Costs m base.now × Shows m from.sector from.corner scaled.old board.old }
+    ensures list { scaled.new ≡ scale_cell m base.now from.sector from.index scaled.old }
+    ensures shown { Shows m from.sector from.corner scaled.new board.new }
 {
-    if is_open(base, s * SECTOR_CELLS + i) {
-        return;
+    if !is_open(base, from.sector * SECTOR_CELLS + from.index) {
+        scale_in_directions(m, from, scaled, board);
     }
-    scale_in_directions(m, s, o, i, scaled, board);
 }
 
 // The cells of a sector, in index order.
-fn scale_costfield(m: Measures, base: &[u8], s: usize, scaled: &mut [u8], board: &mut [u8])
-    requires { Costs m base.now × Costs m scaled.old × (s < sectors m) × (board.old ≡ board_of m scaled.old) }
-    ensures list { scaled.new ≡ scale_sector m base.now s scaled.old }
+#[tactic(auto, using(laws::specs::Fold::counting), unfolding(model::specs::Scaling::scale_sector))]
+fn scale_costfield(m: Measures, base: &[u8], sector: usize, scaled: &mut [u8], board: &mut [u8])
+    requires { Costs m base.now × Costs m scaled.old × (sector < sectors m) × (board.old ≡ board_of m scaled.old) }
+    ensures list { scaled.new ≡ scale_sector m base.now sector scaled.old }
     ensures shown { board.new ≡ board_of m scaled.new }
 {
-    let o = corner(m, s);
-    let mut i = 0;
-    while i < SECTOR_CELLS {
-        scale_cell(m, base, s, o, i, scaled, board);
-        i += 1;
+    let corner = corner(m, sector);
+    for index in 0..SECTOR_CELLS {
+        let from = Start {
+            sector,
+            corner,
+            index,
+        };
+        scale_cell(m, base, from, scaled, board);
     }
 }
 
-// The first n sectors, in number order.
-fn scale_sectors(m: Measures, base: &[u8], n: usize, scaled: &mut [u8], board: &mut [u8])
-    requires { Costs m base.now × Costs m scaled.old × (n ≤ sectors m) × (board.old ≡ board_of m scaled.old) }
-    ensures { scaled.new ≡ run (scale_sector m base.now) n scaled.old }
+// The sectors, in number order.
+#[tactic(auto, using(laws::specs::Fold::counting))]
+fn scale_sectors(m: Measures, base: &[u8], scaled: &mut [u8], board: &mut [u8])
+    requires { Costs m base.now × Costs m scaled.old × (board.old ≡ board_of m scaled.old) }
+    ensures { scaled.new ≡ run (scale_sector m base.now) (sectors m) scaled.old }
 {
-    let mut s = 0;
-    while s < n {
+    for s in 0..sectors(m) {
         scale_costfield(m, base, s, scaled, board);
-        s += 1;
     }
 }
 
@@ -78,77 +73,56 @@ pub fn scale_all_costfields(m: Measures, base: &[u8], scaled: &mut [u8])
     }
     let mut board = walls();
     show_floor(m, scaled, &mut board);
-    scale_sectors(m, base, sectors(m), scaled, &mut board);
+    scale_sectors(m, base, scaled, &mut board);
 }
 
 // Scaled costs are reset to base in sector s.
+#[tactic(auto, unfolding(model::specs::Change::reset_sector))]
 fn reset_sector(base: &[u8], s: usize, scaled: &mut [u8])
     requires { (s * 100 + 100 ≤ length base.now) × (length scaled.old ≡ length base.now) }
     ensures { scaled.new ≡ reset_sector base.now s scaled.old }
 {
-    copy_part(
-        base,
-        s * SECTOR_CELLS,
-        SECTOR_CELLS,
-        s * SECTOR_CELLS,
-        scaled,
-    );
+    let a = s * SECTOR_CELLS;
+    copy_part(base, a, SECTOR_CELLS, a, scaled);
 }
 
-// Resets place k of the sectors around t, if there is one.
-fn reset_place(m: Measures, base: &[u8], t: usize, k: usize, scaled: &mut [u8])
+// Resets the sectors around t. This loop and the next stay two: a closure over lists that it changes is no plainer, and its proof is longer.
+#[tactic(auto, using(laws::specs::Fold::counting, model::specs::Nearby::nearby_lt))]
+fn reset_nearby(m: Measures, base: &[u8], t: usize, scaled: &mut [u8])
     requires { Costs m base.now × Costs m scaled.old × (t < sectors m) }
-    ensures { scaled.new ≡ at_nearby m t (reset_sector base.now) k scaled.old }
+    ensures { scaled.new ≡ run (at_nearby m t (reset_sector base.now)) 9 scaled.old }
 {
-    if is_there(m, t, k) {
-        reset_sector(base, nearby(m, t, k), scaled);
+    for k in 0..PLACES {
+        if let Some(s) = nearby(m, t, k) {
+            reset_sector(base, s, scaled);
+        }
     }
 }
 
-// Resets the first n places around t.
-fn reset_nearby(m: Measures, base: &[u8], t: usize, n: usize, scaled: &mut [u8])
-    requires { Costs m base.now × Costs m scaled.old × (t < sectors m) }
-    ensures { scaled.new ≡ run (at_nearby m t (reset_sector base.now)) n scaled.old }
-{
-    let mut k = 0;
-    while k < n {
-        reset_place(m, base, t, k, scaled);
-        k += 1;
-    }
-}
-
-// Rescales place k of the sectors around t, if there is one.
-fn scale_place(m: Measures, base: &[u8], t: usize, k: usize, scaled: &mut [u8], board: &mut [u8])
+// Rescales the sectors around t.
+#[tactic(auto, using(laws::specs::Fold::counting, model::specs::Nearby::nearby_lt))]
+fn scale_nearby(m: Measures, base: &[u8], t: usize, scaled: &mut [u8], board: &mut [u8])
     requires { Costs m base.now × Costs m scaled.old × (t < sectors m) × (board.old ≡ board_of m scaled.old) }
-    ensures list { scaled.new ≡ at_nearby m t (scale_sector m base.now) k scaled.old }
-    ensures shown { board.new ≡ board_of m scaled.new }
+    ensures { scaled.new ≡ run (at_nearby m t (scale_sector m base.now)) 9 scaled.old }
 {
-    if is_there(m, t, k) {
-        scale_costfield(m, base, nearby(m, t, k), scaled, board);
-    }
-}
-
-// Rescales the first n places around t.
-fn scale_nearby(m: Measures, base: &[u8], t: usize, n: usize, scaled: &mut [u8], board: &mut [u8])
-    requires { Costs m base.now × Costs m scaled.old × (t < sectors m) × (board.old ≡ board_of m scaled.old) }
-    ensures { scaled.new ≡ run (at_nearby m t (scale_sector m base.now)) n scaled.old }
-{
-    let mut k = 0;
-    while k < n {
-        scale_place(m, base, t, k, scaled, board);
-        k += 1;
+    for k in 0..PLACES {
+        if let Some(s) = nearby(m, t, k) {
+            scale_costfield(m, base, s, scaled, board);
+        }
     }
 }
 
 // After a change in sector t: it and its up to eight surrounding sectors are reset, and only then rescaled, t first. At scale 1 no walk blocks a cell.
+// Never put into its caller, in which LLVM then clears 20,000 bytes that it fills afterwards.
+#[inline(never)]
 pub fn rescale(m: Measures, base: &[u8], t: usize, scaled: &mut [u8])
     requires { Costs m base.now × Costs m scaled.old × (t < sectors m) }
     ensures { scaled.new ≡ rescaled m base.now t scaled.old }
 {
-    reset_nearby(m, base, t, 9, scaled);
+    reset_nearby(m, base, t, scaled);
     if m.scale != 1 {
         let mut board = walls();
         show_floor(m, scaled, &mut board);
-        scale_nearby(m, base, t, 9, scaled, &mut board);
+        scale_nearby(m, base, t, scaled, &mut board);
     }
 }

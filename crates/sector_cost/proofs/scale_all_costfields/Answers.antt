@@ -15,4 +15,4 @@ show_floor-requires c = (search rules, showing_none c.walls-board.ensures)
 pub returns : goal.returns
 unfolding scale_floor
 returns c =
-    rw (c.scale_sectors.ensures, c.copy_from_slice.ensures.after, c.sectors.ensures)
+    rw (c.scale_sectors.ensures, c.copy_from_slice.ensures.after)

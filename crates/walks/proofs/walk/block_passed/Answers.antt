@@ -8,10 +8,11 @@ use Rattle.walks.proofs.walk.block_passed.Goals as goal
 use Rattle.walks.proofs.walk.block_passed.Goals.{After-turned-y}
 
 -- the step that a turn makes
-turn : (c : After-turned-y) → let a = c.args in Turned a.i a.d (c.loop-k.k + 1) c.turned-x.result c.turned-y.result
+turn : (c : After-turned-y) → Turned c.args.from.index c.args.d (c.loop-k.k + 1) c.turned-x.result c.turned-y.result
 turn c =
     let c = c in
-    turned_more (search rules) (search rules) c.loop-k.invariant.2 (rw c.eastward.ensures at c.turned-x.ensures.0) (rw c.southward.ensures at c.turned-y.ensures.0)
+    let by = c.shift_of-by.ensures in
+    turned_more (search rules) (search rules) c.loop-k.invariant.2 (rw by.0 at c.turned-x.ensures.0) (rw by.1 at c.turned-y.ensures.0)
 
 pub loop-k-init : goal.loop-k-init
 loop-k-init c = (search (rules, counting), search (rules, counting), turned_none _ _ (search rules))
