@@ -10,7 +10,7 @@ ghost use Rattle.store.specs.Ends.{is_above, end_line, line_mark, Within, side_e
 use crate::layout::{mark_in, size_of};
 use fields::numbers::wide;
 use fields::sectors::{cells, sectors};
-use fields::sides::side_at;
+use fields::sides::SIDES;
 use model::{Measures, Side};
 
 fn is_outside(low: u8, high: u8, n: u8) -> bool
@@ -137,7 +137,7 @@ fn any_end(st: &[u8], m: Measures) -> bool
 {
     let mut n = 0;
     while n < 4 {
-        if any_in(st, m, end_line(m, side_at(n)), n) {
+        if any_in(st, m, end_line(m, SIDES[n]), n) {
             return true;
         }
         n += 1;
