@@ -26,3 +26,11 @@ cast_is West = refl
 pub neighbour_there : (there : Bool) (u : ℕ) {o : Option ℕ} → o ≡ (if there then Some u else None) → there ≡ is_some o
 neighbour_there true u e = rw e refl
 neighbour_there false u e = rw e refl
+
+pub neighbour_some : (there : Bool) (u : ℕ) {t : ℕ} → Some t ≡ (if there then Some u else None) → (there ≡ true) × (t ≡ u)
+neighbour_some true u e = (refl, cc)
+neighbour_some false u e = cc
+
+pub neighbour_none : (there : Bool) (u : ℕ) → None ≡ (if there then Some u else None) → there ≡ false
+neighbour_none true u e = cc
+neighbour_none false u e = refl
