@@ -1,5 +1,5 @@
--- The sides: entry k of their table is the side of number k, and what a neighbour says of a side.
-use Rattle.std.specs.Prelude.{ℕ, zero, suc, ◌<◌, ◌≡◌, refl, get_or, Bool, true, false, if◌then◌else◌, Option, Some, None, is_some}
+-- The sides by number: entry k of their table is side k, and a side's cast is its number.
+use Rattle.std.specs.Prelude.{ℕ, zero, suc, ◌<◌, ◌≡◌, refl, get_or}
 use denote.Enum.Declared.{tag_of}
 use Rattle.std.proofs.Common.{arith}
 use Rattle.model.specs.declared.Side.{Side}
@@ -21,16 +21,3 @@ cast_is North = refl
 cast_is East = refl
 cast_is South = refl
 cast_is West = refl
-
--- whether there is a neighbour, by what stands for it
-pub neighbour_there : (there : Bool) (u : ℕ) {o : Option ℕ} → o ≡ (if there then Some u else None) → there ≡ is_some o
-neighbour_there true u e = rw e refl
-neighbour_there false u e = rw e refl
-
-pub neighbour_some : (there : Bool) (u : ℕ) {t : ℕ} → Some t ≡ (if there then Some u else None) → (there ≡ true) × (t ≡ u)
-neighbour_some true u e = (refl, cc)
-neighbour_some false u e = cc
-
-pub neighbour_none : (there : Bool) (u : ℕ) → None ≡ (if there then Some u else None) → there ≡ false
-neighbour_none true u e = cc
-neighbour_none false u e = refl

@@ -1,9 +1,10 @@
 -- The edges of a portal in the cases that code meets, and that they are the graph's weights.
-use Rattle.std.specs.Prelude.{if◌then◌else◌, Some, None, ℕ, ◌≤◌, ◌<◌, ◌≡◌, Bool, true, false, ◌&&◌, List, ltb, eqb, length, get_or}
+use Rattle.std.specs.Prelude.{Some, None, ℕ, ◌≤◌, ◌<◌, ◌≡◌, Bool, true, false, ◌&&◌, List, ltb, eqb, length, get_or}
 use Rattle.std.proofs.Common.{arith, sym, ap, ◌∙◌}
 use Rattle.std.proofs.Math.Path.{refl}
 use borrow.Author.Tests.{lt-ltb, eq-eqb, ne_eqb}
 use Rattle.laws.specs.Fold.{pick}
+use Rattle.laws.specs.Options.{some_if, none_if}
 use Rattle.laws.specs.Table.{length_tabulate, table_at}
 use Rattle.model.specs.declared.Measures.{Measures}
 use Rattle.model.specs.declared.Side.{Side}
@@ -30,21 +31,6 @@ outer_is o p x y s e f b g k d = rw (← b, ← d, k, g, f, s, e, o.read) refl
 unfoldable pub edge_by : List ℕ → ℕ → ℕ → ℕ → ℕ → ℕ
 edge_by from mid outer own c = pick (eqb c own) outer (pick (ltb (near_by from mid) apart) (key (near_by from mid)) 0)
 
--- a weight by a count of moves, as code finds it
-none_moves : (n : ℕ) (f : ℕ → ℕ) (z : ℕ) → None ≡ moves_or_none n → z ≡ pick (ltb n apart) (f n) z
-none_moves n f z = go (ltb n apart)
-  where
-    go : (t : Bool) → None ≡ (if t then Some n else None) → z ≡ pick t (f n) z
-    go true e = cc
-    go false e = refl
-
-some_moves : (n : ℕ) (f : ℕ → ℕ) (z : ℕ) {k : ℕ} → Some k ≡ moves_or_none n → f k ≡ pick (ltb n apart) (f n) z
-some_moves n f z {k} = go (ltb n apart)
-  where
-    go : (t : Bool) → Some k ≡ (if t then Some n else None) → f k ≡ pick t (f n) z
-    go true e = cc
-    go false e = cc
-
 module _ (from : List ℕ) (mid outer own c : ℕ) where
   pub edge_own : c ≡ own → outer ≡ edge_by from mid outer own c
   unfolding edge_by
@@ -53,11 +39,11 @@ module _ (from : List ℕ) (mid outer own c : ℕ) where
   module _ (e : c ≡ own → ⊥) where
     pub edge_far : None ≡ moves_or_none (near_by from mid) → 0 ≡ edge_by from mid outer own c
     unfolding edge_by
-    edge_far z = rw (ne_eqb c own e) (none_moves (near_by from mid) key 0 z)
+    edge_far z = rw (ne_eqb c own e, none_if (ltb (near_by from mid) apart) (near_by from mid) z) refl
 
     pub edge_near : {near : ℕ} → Some near ≡ moves_or_none (near_by from mid) → key near ≡ edge_by from mid outer own c
     unfolding edge_by
-    edge_near l = rw (ne_eqb c own e) (some_moves (near_by from mid) key 0 l)
+    edge_near l = let some = some_if (ltb (near_by from mid) apart) (near_by from mid) l in rw (ne_eqb c own e, some.0, some.1) refl
 
 inner_by : (h : Hall) → Fits h → (from : List ℕ) (q : ℕ) → pick (ltb (near_by from (mid_of h q)) apart) (key (near_by from (mid_of h q))) 0 ≡ inner_edge h from q
 unfolding inner_edge mid_of near_by

@@ -1,14 +1,14 @@
 -- `outer_edge` answers by the sector beyond and the facing portal.
 use mathlib.Core.Path.{◌≡◌, refl, ap, ◌∙◌}
 use mathlib.Core.Bool.{true, false, not}
-use Rattle.fields.specs.Sides.{neighbour_there}
+use Rattle.laws.specs.Options.{is_some_if}
 use Rattle.model.specs.Sectors.{has_beyond}
 use Rattle.graph.specs.Weights.{outer_is}
 use Rattle.graph.proofs.edges.outer_edge.Goals as goal
 use Rattle.graph.proofs.edges.outer_edge.Goals.{After-is_none}
 
 there : (c : After-is_none) → has_beyond c.args.m c.portal_sector.result c.portal_side.result ≡ not c.is_none.result
-there c = neighbour_there _ _ c.neighbour.ensures ∙ c.is_none.ensures
+there c = is_some_if _ _ c.neighbour.ensures ∙ c.is_none.ensures
 
 pub returns-then-is_none : goal.returns-then-is_none
 returns-then-is_none c =
