@@ -35,16 +35,20 @@ none_past (x ∷ l) (suc k) h = none_past l k (le_of_suc-le-suc h)
 pub beyond_few : {m : Measures} (s : ℕ) (side : Side) {other : ℕ} → Accepted m → s ≤ 10000 → other ≡ beyond m s side → other ≤ 20000
 beyond_few {m} s side f l e = omega (arith, f.few_rows, beyond_low m s side)
 
-module _ (m : Measures) (marks : List ℕ)
-    (t s k : ℕ) {side : Side} (at : side ≡ side_at k) {edge : Bool} (is : edge ≡ (has_beyond m s side && is_nearby m t s && not (is_nearby m t (beyond m s side)))) where
-  pub exceeds_edge : {facing : Side} {other a b : ℕ} → edge ≡ true → other ≡ beyond m s side → facing ≡ opposite side
-      → a ≡ window_count (get_or marks (other * 4 + side_number facing) 0) → b ≡ window_count (get_or marks (s * 4 + side_number side) 0) → ltb a b ≡ exceeds_at (hall_of m [] [] marks) t s (side_at k)
+module _ (m : Measures) (marks : List ℕ) (t s : ℕ) (side : Side) (fresh : is_nearby m t s ≡ true) where
+  pub exceeds_none : has_beyond m s side ≡ false → false ≡ exceeds_at (hall_of m [] [] marks) t s side
   unfolding exceeds_at
-  exceeds_edge h o f p q = rw (p, q, o, f, ← at, ← is, h)
+  exceeds_none h = rw h refl
 
-  pub exceeds_not : edge ≡ false → false ≡ exceeds_at (hall_of m [] [] marks) t s (side_at k)
-  unfolding exceeds_at
-  exceeds_not h = rw (← at, ← is, h)
+  module _ (h : has_beyond m s side ≡ true) {other : ℕ} (is : other ≡ beyond m s side) {near : Bool} (n : near ≡ is_nearby m t other) where
+    pub exceeds_near : near ≡ true → not near ≡ exceeds_at (hall_of m [] [] marks) t s side
+    unfolding exceeds_at
+    exceeds_near e = rw (h, fresh, ← is, ← n, e) refl
+
+    pub exceeds_edge : {facing : Side} {a b : ℕ} → near ≡ false → facing ≡ opposite side
+        → a ≡ window_count (get_or marks (other * 4 + side_number facing) 0) → b ≡ window_count (get_or marks (s * 4 + side_number side) 0) → ltb a b ≡ exceeds_at (hall_of m [] [] marks) t s side
+    unfolding exceeds_at
+    exceeds_edge e f p q = rw (h, fresh, ← is, ← n, e, p, q, f)
 
 -- ---- the hall after a change
 module _ {m : Measures} (st : List ℕ) (read : m ≡ measures_at st) where

@@ -1,7 +1,7 @@
 // What change does to a store that passed the check, at a cell of its floor.
-ghost use Rattle.std.specs.Prelude.{◌≡◌, true, ◌&&◌, not, [], ◌+◌, ◌*◌, ◌≤◌, ◌<◌, length, get_or};
-ghost use Rattle.model.specs.Cells.{side_at, side_number};
-ghost use Rattle.model.specs.Sectors.{sectors, cells, beyond, has_beyond};
+ghost use Rattle.std.specs.Prelude.{◌≡◌, true, [], ◌+◌, ◌*◌, ◌≤◌, ◌<◌, length, get_or};
+ghost use Rattle.model.specs.Cells.{side_number};
+ghost use Rattle.model.specs.Sectors.{sectors, cells};
 ghost use Rattle.model.specs.Accepted.{Accepted};
 ghost use Rattle.model.specs.Windows.{window_count};
 ghost use Rattle.model.specs.Change.{is_nearby, remarked, changed, exceeds_at, exceeds};
@@ -14,8 +14,8 @@ ghost use Rattle.builder.specs.Parts.{Changeable, altered_number, altered_into};
 
 use crate::marks::{mark_side, take_marks};
 use crate::rooms::{cost_room, mark_room};
-use fields::sectors::{beyond, cells, has_beyond, sectors};
-use fields::sides::{opposite, side_at, side_number};
+use fields::sectors::{cells, neighbour, sectors};
+use fields::sides::{SIDES, opposite};
 use model::{Measures, Side};
 use portal::runs::window_count;
 use sector_cost::nearby::{is_nearby, nearby};
@@ -73,30 +73,21 @@ fn windows_on(marks: &[u16], s: usize, side: Side) -> usize
     requires { Small marks.now × (s ≤ 20000) }
     ensures { result ≡ window_count (get_or marks.now (s * 4 + side_number side) 0) }
 {
-    window_count(mark_or_none(marks, s * 4 + side_number(side)))
+    window_count(mark_or_none(marks, s * 4 + side as usize))
 }
 
-// Whether a side of sector s, one of those marked afresh, leads to a sector that is not.
-fn is_edge(m: Measures, t: usize, s: usize, side: Side) -> bool
-    requires { Accepted m × (t < sectors m) × (s < sectors m) × (is_nearby m t s ≡ true) }
-    ensures { result ≡ has_beyond m s side && is_nearby m t s && not (is_nearby m t (beyond m s side)) }
-{
-    if has_beyond(m, s, side) {
-        return !is_nearby(m, t, beyond(m, s, side));
-    }
-    false
-}
-
-// Whether it has more windows on side i than the facing side of that other sector.
-fn exceeds_at(m: Measures, marks: &[u16], t: usize, s: usize, i: usize) -> bool
+// Whether a side of sector s, one of those marked afresh, leads to a sector that is not and has fewer windows on its facing side.
+fn exceeds_at(m: Measures, marks: &[u16], t: usize, s: usize, side: Side) -> bool
     requires { Accepted m × Small marks.now × (t < sectors m) × (s < sectors m) × (is_nearby m t s ≡ true) }
-    ensures { result ≡ exceeds_at (hall_of m [] [] marks.now) t s (side_at i) }
+    ensures { result ≡ exceeds_at (hall_of m [] [] marks.now) t s side }
 {
-    let side = side_at(i);
-    if is_edge(m, t, s, side) {
-        return windows_on(marks, beyond(m, s, side), opposite(side)) < windows_on(marks, s, side);
+    match neighbour(m, s, side) {
+        Some(other) => {
+            !is_nearby(m, t, other)
+                && windows_on(marks, other, opposite(side)) < windows_on(marks, s, side)
+        }
+        None => false,
     }
-    false
 }
 
 // Whether it has on any of its sides.
@@ -104,12 +95,10 @@ fn sector_exceeds(m: Measures, marks: &[u16], t: usize, s: usize) -> bool
     requires { Accepted m × Small marks.now × (t < sectors m) × (s < sectors m) × (is_nearby m t s ≡ true) }
     ensures { result ≡ sector_exceeds (hall_of m [] [] marks.now) t s }
 {
-    let mut i = 0;
-    while i < 4 {
-        if exceeds_at(m, marks, t, s, i) {
+    for side in SIDES {
+        if exceeds_at(m, marks, t, s, side) {
             return true;
         }
-        i += 1;
     }
     false
 }

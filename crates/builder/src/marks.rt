@@ -7,7 +7,7 @@ ghost use Rattle.model.specs.Windows.{marks_of};
 ghost use Rattle.store.specs.Stored.{held};
 ghost use Rattle.builder.specs.Marks.{kept, fresh};
 
-use fields::sides::side_at;
+use fields::sides::SIDES;
 use model::Measures;
 use portal::marks::side_mark;
 use store::layout::Store;
@@ -38,7 +38,7 @@ pub fn mark_side(m: Measures, costs: &[u8], k: usize, marks: &mut [u16])
     requires { Accepted m × (k < sectors m * 4) × (length marks.old ≡ sectors m * 4) }
     ensures { marks.new ≡ each (fresh m costs.now) k marks.old }
 {
-    marks[k] = side_mark(m, costs, k / 4, side_at(k % 4));
+    marks[k] = side_mark(m, costs, k / 4, SIDES[k % 4]);
 }
 
 // Marks all sides afresh.

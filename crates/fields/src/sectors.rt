@@ -1,15 +1,14 @@
 // Sectors by number.
-ghost use Rattle.std.specs.Prelude.{◌≡◌, ◌≤◌, ◌<◌};
+ghost use Rattle.std.specs.Prelude.{◌≡◌, ◌≤◌, ◌<◌, if◌then◌else◌};
 ghost use Rattle.model.specs.Sectors.{sectors, cells, beyond, has_beyond};
 
-use crate::numbers::{less, wide};
 use model::{Measures, Side};
 
 // How many sectors a hall has.
 pub fn sectors(m: Measures) -> usize
     ensures { result ≡ sectors m }
 {
-    wide(m.columns) * wide(m.rows)
+    usize::from(m.columns) * usize::from(m.rows)
 }
 
 // The cells of a sector.
@@ -25,29 +24,39 @@ pub fn cells(m: Measures) -> usize
 }
 
 // The sector beyond a side.
+#[tactic(auto, unfolding(model::specs::Sectors::beyond))]
 pub fn beyond(m: Measures, s: usize, side: Side) -> usize
     requires { s ≤ 10000 }
     ensures { result ≡ beyond m s side }
 {
-    let rows = wide(m.rows);
+    let rows = usize::from(m.rows);
     match side {
-        Side::North => less(s, 1),
+        Side::North => s.saturating_sub(1),
         Side::East => s + rows,
         Side::South => s + 1,
-        Side::West => less(s, rows),
+        Side::West => s.saturating_sub(rows),
     }
 }
 
 // Whether there is a sector beyond a side.
-pub fn has_beyond(m: Measures, s: usize, side: Side) -> bool
+#[tactic(auto, unfolding(model::specs::Sectors::has_beyond))]
+fn has_beyond(m: Measures, s: usize, side: Side) -> bool
     requires { (1 ≤ m.rows) × (s ≤ 10000) }
     ensures { result ≡ has_beyond m s side }
 {
-    let rows = wide(m.rows);
+    let rows = usize::from(m.rows);
     match side {
         Side::North => 0 < s % rows,
         Side::East => s + rows < sectors(m),
         Side::South => s % rows + 1 < rows,
         Side::West => rows <= s,
     }
+}
+
+// The sector beyond a side, or None at the end of the floor.
+pub fn neighbour(m: Measures, s: usize, side: Side) -> Option<usize>
+    requires { (1 ≤ m.rows) × (s ≤ 10000) }
+    ensures { result ≡ (if has_beyond m s side then Some (beyond m s side) else None) }
+{
+    has_beyond(m, s, side).then(|| beyond(m, s, side))
 }

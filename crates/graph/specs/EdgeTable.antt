@@ -1,7 +1,10 @@
 -- The weights of the portal graph as one list by arc number, and the graph that such a list stands for.
-use Rattle.std.specs.Prelude.{ℕ, ◌+◌, ◌*◌, ◌≤◌, ◌<◌, ◌≡◌, refl, ◌⊎◌, List, [], length, get_or, set}
+use Rattle.std.specs.Prelude.{ℕ, ◌-◌, ◌+◌, ◌*◌, ◌≤◌, ◌<◌, ◌≡◌, refl, ◌⊎◌, List, [], length, get_or, set, replicate}
 use Rattle.std.proofs.Common.{add-zero, arith, sym, ap, subst, ◌∙◌, inl, inr, length-set}
 use Rattle.std.proofs.Math.ListN.{get_or-eq_default}
+use Rattle.std.proofs.lemmas.List.{length-replicate, get_or-replicate}
+use borrow.Rule.Slice.PartMut.{put_mid}
+use Rattle.laws.specs.Region.{region, within, within_came, length_within, get_or_below, get_or_inside}
 use Rattle.laws.specs.Table.{tabulate, length_tabulate, tabulate_at, Tabled, tabled_more, tabled_all}
 use Rattle.laws.specs.Graph.{Graph, Sound, BothWays, below_or}
 use Rattle.model.specs.declared.Measures.{Measures}
@@ -89,6 +92,37 @@ row_more {g} {p} {c} {w} {t₀} {t} row l k e =
 
 pub row_all : {g : ℕ → ℕ} {p c : ℕ} {t₀ t : List ℕ} → Row g p c t₀ t → sector_portals ≤ c → Row g p sector_portals t₀ t
 row_all {g} {p} {c} {t₀} {t} row l = subst (λ (k : ℕ). Row g p k t₀ t) (omega (arith, row.within)) row
+
+-- zeros put in a row's place
+pub row_clear : (p k : ℕ) (t₀ : List ℕ) {ys : List ℕ} → k ≡ sector_portals → p * sector_portals + sector_portals ≤ length t₀ → ys ≡ replicate sector_portals 0
+    → Row (λ c. 0) p sector_portals t₀ (put_mid (p * sector_portals) k t₀ ys)
+row_clear p k t₀ {ys} size room e = rw (within_came first sector_portals k zeros t₀ ys size e) (record {
+  within = omega arith;
+  long = long;
+  grown = λ f n r same. record { within = omega (arith, r.long, room); long = long ∙ r.long; at = λ j l. at f n r same j l (below_or j first) };
+})
+  where
+    first : ℕ
+    first = p * sector_portals
+
+    zeros : List ℕ → List ℕ
+    zeros _ = replicate sector_portals 0
+
+    kept : length (zeros (region first sector_portals t₀)) ≡ sector_portals
+    kept = length-replicate {A = ℕ} sector_portals 0
+
+    long : length (within first sector_portals zeros t₀) ≡ length t₀
+    long = length_within first sector_portals zeros t₀ room kept
+
+    at : (f : ℕ → ℕ) (n : ℕ) → Tabled f n first t₀ → ((c : ℕ) → c < sector_portals → 0 ≡ f (arc_at p c)) → (j : ℕ) → j < arc_at p sector_portals → (j < first) ⊎ (first ≤ j)
+        → get_or (within first sector_portals zeros t₀) j 0 ≡ f j
+    at f n r same j l (inl b) = get_or_below first sector_portals zeros t₀ room kept j b ∙ r.at j b
+    at f n r same j l (inr b) =
+        let place : j ≡ first + (j - first) = omega arith in
+        let low : j - first < sector_portals = omega arith in
+        let there : get_or (within first sector_portals zeros t₀) (first + (j - first)) 0 ≡ f (first + (j - first)) =
+        get_or_inside first sector_portals zeros t₀ room kept (j - first) low ∙ get_or-replicate sector_portals (j - first) 0 0 low ∙ same (j - first) low in
+        subst (λ (i : ℕ). get_or (within first sector_portals zeros t₀) i 0 ≡ f i) (sym place) there
 
 -- ---- a store that passes the check
 -- what every function below is given: a store that passes, and its measures

@@ -1,5 +1,5 @@
 -- The moves between a cell and the portals of its sector, as one list by place; by it go the start portals, the end portals, leg and the last moves.
-use Rattle.std.specs.Prelude.{ℕ, ◌≤◌, ◌<◌, ◌≡◌, ◌⊎◌, Bool, ◌&&◌, List, get_or}
+use Rattle.std.specs.Prelude.{if◌then◌else◌, Option, Some, None, unwrap_or, ℕ, ◌≤◌, ◌<◌, ◌≡◌, ◌⊎◌, Bool, ◌&&◌, List, get_or}
 use Rattle.std.proofs.Common.{arith, sym, ap, ◌∙◌, inl, inr}
 use Rattle.std.proofs.Math.Path.{refl}
 use Rattle.std.proofs.Math.Bool.{true, false}
@@ -14,6 +14,7 @@ use Rattle.model.specs.Moves.{moves, moves_to, joined, apart}
 use Rattle.model.specs.MovesFewest.{joined_back, moves_settled}
 use Rattle.model.specs.Halls.{Hall}
 use Rattle.model.specs.Portals.{sector_portals, place_portal, is_portal, midpoint, mid_cell}
+use Rattle.moves.specs.Levels.{moves_or_none}
 use Rattle.model.specs.PortalCrossings.{Fits, mid_low, mid_sector, mid_place}
 
 -- the index of a portal's midpoint, or 100
@@ -40,32 +41,35 @@ pub mid_none : (h : Hall) (p : ℕ) → is_portal h p ≡ false → sector_cells
 unfolding mid_of
 mid_none h p e = rw e refl
 
-pub near_none : (from : List ℕ) (mid : ℕ) → sector_cells ≤ mid → apart ≡ near_by from mid
+pub near_none : (from : List ℕ) (mid : ℕ) → sector_cells ≤ mid → None ≡ moves_or_none (near_by from mid)
 unfolding near_by
-near_none from mid l = rw (le-ltb mid sector_cells l)
+near_none from mid l = rw (le-ltb mid sector_cells l) refl
 
-pub near_some : (from : List ℕ) (mid : ℕ) {n : ℕ} → mid < sector_cells → n ≡ mid → get_or from n 0 ≡ near_by from mid
+pub near_some : (from : List ℕ) (mid : ℕ) → mid < sector_cells → moves_or_none (get_or from mid 0) ≡ moves_or_none (near_by from mid)
 unfolding near_by
-near_some from mid l e = rw (lt-ltb mid sector_cells l, e)
+near_some from mid l = rw (lt-ltb mid sector_cells l) refl
 
-pub other_sector : (costs : List ℕ) (x y : ℕ) → (sector_of x ≡ sector_of y → ⊥) → apart ≡ pick (joined costs x y) (moves_to costs x y) apart
+pub other_sector : (costs : List ℕ) (x y : ℕ) → (sector_of x ≡ sector_of y → ⊥) → None ≡ (if joined costs x y then Some (moves_to costs x y) else None)
 unfolding joined
 other_sector costs x y n = rw (ne_eqb (sector_of x) (sector_of y) n) refl
 
 pub same_sector : (costs : List ℕ) (x y : ℕ) {from : List ℕ} → sector_of x ≡ sector_of y → from ≡ moves (costs_of costs (sector_of x)) (place_of x)
-    → get_or from (place_of y) 0 ≡ pick (joined costs x y) (moves_to costs x y) apart
+    → moves_or_none (get_or from (place_of y) 0) ≡ (if joined costs x y then Some (moves_to costs x y) else None)
 unfolding joined moves_to
-same_sector costs x y {from} e f = rw (f, eq-eqb (sector_of x) (sector_of y) e) (go (below_or (get_or d (place_of y) 0) apart))
+same_sector costs x y {from} e f = rw (f, eq-eqb (sector_of x) (sector_of y) e) refl
+
+-- an entry's byte
+pub near_byte : (costs : List ℕ) (x mid : ℕ) {from : List ℕ} {o : Option ℕ} → x < sector_cells → from ≡ moves costs x → o ≡ moves_or_none (near_by from mid) → unwrap_or o apart ≡ near_by from mid
+unfolding near_by
+near_byte costs x mid {from} l e f = rw f (same (near_by from mid) (small (below_or mid sector_cells)) (below_or (near_by from mid) apart))
   where
-    d : List ℕ
-    d = moves (costs_of costs (sector_of x)) (place_of x)
+    small : (mid < sector_cells) ⊎ (sector_cells ≤ mid) → near_by from mid ≤ apart
+    small (inl b) = rw (lt-ltb mid sector_cells b, e) ((moves_settled costs x l).rough.capped mid b)
+    small (inr b) = rw (le-ltb mid sector_cells b) (omega arith)
 
-    cap : get_or d (place_of y) 0 ≤ apart
-    cap = (moves_settled (costs_of costs (sector_of x)) (place_of x) (omega arith)).rough.capped (place_of y) (omega arith)
-
-    go : (get_or d (place_of y) 0 < apart) ⊎ (apart ≤ get_or d (place_of y) 0) → get_or d (place_of y) 0 ≡ pick (ltb (get_or d (place_of y) 0) apart) (get_or d (place_of y) 0) apart
-    go (inl l) = rw (lt-ltb (get_or d (place_of y) 0) apart l)
-    go (inr l) = rw (le-ltb (get_or d (place_of y) 0) apart l) (omega (arith, cap))
+    same : (n : ℕ) → n ≤ apart → (n < apart) ⊎ (apart ≤ n) → unwrap_or (moves_or_none n) apart ≡ n
+    same n h (inl b) = rw (lt-ltb n apart b) refl
+    same n h (inr b) = rw (le-ltb n apart b) (omega arith)
 
 -- entries by the moves of the sector and its midpoints
 pub near_list : (h : Hall) (x : ℕ) {from mids near : List ℕ} {c : ℕ} → from ≡ moves (costs_of h.scaled (sector_of x)) (place_of x) → mids ≡ sector_mids h (sector_of x)

@@ -1,9 +1,10 @@
 -- The edges of a portal in the cases that code meets, and that they are the graph's weights.
-use Rattle.std.specs.Prelude.{ℕ, ◌≤◌, ◌<◌, ◌≡◌, Bool, true, false, ◌&&◌, List, ltb, eqb, length, get_or}
+use Rattle.std.specs.Prelude.{Some, None, ℕ, ◌≤◌, ◌<◌, ◌≡◌, Bool, true, false, ◌&&◌, List, ltb, eqb, length, get_or}
 use Rattle.std.proofs.Common.{arith, sym, ap, ◌∙◌}
 use Rattle.std.proofs.Math.Path.{refl}
 use borrow.Author.Tests.{lt-ltb, eq-eqb, ne_eqb}
 use Rattle.laws.specs.Fold.{pick}
+use Rattle.laws.specs.Options.{some_if, none_if}
 use Rattle.laws.specs.Table.{length_tabulate, table_at}
 use Rattle.model.specs.declared.Measures.{Measures}
 use Rattle.model.specs.declared.Side.{Side}
@@ -15,6 +16,7 @@ use Rattle.model.specs.Portals.{is_portal, midpoint, moves_from, facing, key, ou
 use Rattle.model.specs.PortalCrossings.{Fits, mid_low}
 use Rattle.model.specs.PortalEdges.{weight_at}
 use Rattle.model.specs.Store.{decode}
+use Rattle.moves.specs.Levels.{moves_or_none}
 use Rattle.graph.specs.EdgeTable.{Opened, bare}
 use Rattle.graph.specs.Near.{mid_of, sector_mids, near_by, mid_some, mid_none}
 
@@ -34,14 +36,14 @@ module _ (from : List ℕ) (mid outer own c : ℕ) where
   unfolding edge_by
   edge_own e = rw (eq-eqb c own e)
 
-  module _ (e : c ≡ own → ⊥) {near : ℕ} (at : near ≡ near_by from mid) where
-    pub edge_far : near ≡ 255 → 0 ≡ edge_by from mid outer own c
+  module _ (e : c ≡ own → ⊥) where
+    pub edge_far : None ≡ moves_or_none (near_by from mid) → 0 ≡ edge_by from mid outer own c
     unfolding edge_by
-    edge_far z = rw (ne_eqb c own e, ← at, z) refl
+    edge_far z = rw (ne_eqb c own e, none_if (ltb (near_by from mid) apart) (near_by from mid) z) refl
 
-    pub edge_near : near < 255 → key near ≡ edge_by from mid outer own c
+    pub edge_near : {near : ℕ} → Some near ≡ moves_or_none (near_by from mid) → key near ≡ edge_by from mid outer own c
     unfolding edge_by
-    edge_near l = rw (ne_eqb c own e, ← at, lt-ltb near apart l)
+    edge_near l = let some = some_if (ltb (near_by from mid) apart) (near_by from mid) l in rw (ne_eqb c own e, some.0, some.1) refl
 
 inner_by : (h : Hall) → Fits h → (from : List ℕ) (q : ℕ) → pick (ltb (near_by from (mid_of h q)) apart) (key (near_by from (mid_of h q))) 0 ≡ inner_edge h from q
 unfolding inner_edge mid_of near_by

@@ -6,9 +6,8 @@ ghost use Rattle.model.specs.Store.{decode};
 ghost use Rattle.graph.specs.EdgeTable.{Opened, bare};
 ghost use Rattle.graph.specs.Reading.{Places};
 
-use fields::numbers::wide;
 use fields::sectors::{beyond, sectors};
-use fields::sides::{opposite, side_at, side_number};
+use fields::sides::{SIDES, opposite};
 use model::{Measures, PortalWindow, Side};
 use portal::border::border_index;
 use portal::runs::{OpenRun, window_at, window_count};
@@ -36,7 +35,7 @@ pub fn portal_sector(p: usize) -> usize
 pub fn portal_side(p: usize) -> Side
     ensures { result ≡ portal_side p }
 {
-    side_at(p % SECTOR_PORTALS / SIDE_PORTALS)
+    SIDES[p % SECTOR_PORTALS / SIDE_PORTALS]
 }
 
 fn portal_window(p: usize) -> usize
@@ -57,10 +56,7 @@ pub fn is_portal(st: &[u8], m: Measures, p: usize) -> bool
     requires { Opened m st.now }
     ensures { result ≡ is_portal (decode st.now) p }
 {
-    if sectors(m) <= portal_sector(p) {
-        return false;
-    }
-    portal_window(p) < window_count(mark_of(st, m, p))
+    portal_sector(p) < sectors(m) && portal_window(p) < window_count(mark_of(st, m, p))
 }
 
 // The window of a portal: its first and last place, and its cells.
@@ -84,17 +80,18 @@ pub fn midpoint(st: &[u8], m: Measures, p: usize) -> usize
     ensures { (result ≡ midpoint (decode st.now) p) × (result < sector_cells) }
 {
     let run = portal_run(st, m, p);
-    wide(border_index(portal_side(p), (run.first + run.last) / 2))
+    usize::from(border_index(portal_side(p), (run.first + run.last) / 2))
 }
 
 // The portal of the same number on the facing side.
+#[tactic(auto, unfolding(model::specs::Portals::facing))]
 pub fn facing(m: Measures, p: usize) -> usize
     requires { (m.rows ≤ 10) × (p < hall_portals) }
     ensures { result ≡ facing (bare m) p }
 {
     let side = portal_side(p);
     beyond(m, portal_sector(p), side) * SECTOR_PORTALS
-        + side_number(opposite(side)) * SIDE_PORTALS
+        + opposite(side) as usize * SIDE_PORTALS
         + portal_window(p)
 }
 
@@ -104,7 +101,8 @@ pub fn head_of(m: Measures, p: usize, c: usize) -> usize
     ensures { result ≡ head_of (bare m) p c }
 {
     if c == p % SECTOR_PORTALS {
-        return facing(m, p);
+        facing(m, p)
+    } else {
+        portal_sector(p) * SECTOR_PORTALS + c
     }
-    portal_sector(p) * SECTOR_PORTALS + c
 }

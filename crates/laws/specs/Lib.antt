@@ -27,3 +27,4 @@ pub mod Tracing
 pub mod Keys
 pub mod Floor
 pub mod Detour
+pub mod Options

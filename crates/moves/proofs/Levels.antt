@@ -6,6 +6,7 @@ use mathlib.Core.Path.{◌≡◌, refl, sym, ap, ◌∙◌}
 use mathlib.Core.Logic.{◌⊎◌, inl, inr}
 use mathlib.Core.Bool.{Bool, true, false}
 use mathlib.Core.List.{List}
+use Rattle.std.specs.Prelude.{Some, None}
 use lib.Dec.{ltb, eqb}
 use lib.ListN.{length, get_or, set, length-set}
 use lib.Seq.{ext_get_or, get_or-set_same, get_or-set_other}
@@ -18,7 +19,7 @@ use Rattle.model.specs.declared.Side.TheVariants.{North, East, South, West}
 use Rattle.model.specs.Cells.{beside}
 use Rattle.model.specs.Costs.{open_at}
 use Rattle.model.specs.Moves.{moves}
-use Rattle.moves.specs.Levels.{spot, open_words, first_word, word_at, Grown, cell_bit, missing, moves_by, moves_in, Spread}
+use Rattle.moves.specs.Levels.{spot, open_words, first_word, word_at, Grown, cell_bit, missing, moves_by, moves_in, moves_or_none}
 use Rattle.moves.proofs.Bits.{bit_at, none_bit, cut_bit, own_bit, other_bit}
 use Rattle.moves.proofs.Words.{Out, from_other, one_spot, cells_out, open_yes, open_no, side_bit, side_there, side_none, grown_bit, grown_only, NextBit, by_side}
 use Rattle.moves.proofs.Steps.{far, far_start, far_capped, far_none, far_blocked, far_open, far_before, far_next, far_still, far_few, moves_long}
@@ -93,8 +94,8 @@ module _ (costs : List ℕ) (from : ℕ) (low : from < 100) (l₀ : List ℕ) {l
   }
 
 -- ---- the next level
-module _ (costs : List ℕ) (from : ℕ) (low : from < 100) (start : open_at costs from ≡ true) {words : List ℕ} (given : words ≡ open_words costs) {l₀ l : List ℕ} {d change : ℕ} (few : d < 100)
-    (g : Grown words d l₀ l change) (all : Levels (far costs from) l₀ (d + 1)) where
+module _ (costs : List ℕ) (from : ℕ) (low : from < 100) (start : open_at costs from ≡ true) {words : List ℕ} (given : words ≡ open_words costs) {l₀ l : List ℕ} {d : ℕ} {grew : Bool} (few : d < 100)
+    (g : Grown words d l₀ l grew) (all : Levels (far costs from) l₀ (d + 1)) where
   level : Level (far costs from) l₀ d
   level = all.each d (omega arith)
 
@@ -172,7 +173,7 @@ module _ (costs : List ℕ) (from : ℕ) (low : from < 100) (start : open_at cos
       go e (inr k) h = let z : e ≡ d + 1 = omega arith in rw z (record { out = next_out; yes = next_yes; no = next_no })
 
   -- where it is level d, no cell has d + 1 moves
-  whole_still : change ≡ 0 → (i : ℕ) → i < 100 → far costs from i < 255 → far costs from i < d + 1
+  whole_still : grew ≡ false → (i : ℕ) → i < 100 → far costs from i < 255 → far costs from i < d + 1
   whole_still z i h m = let most : far costs from i ≤ d = far_still costs from low d none i h m in omega arith
     where
       none : (j : ℕ) → j < 100 → far costs from j ≡ d + 1 → ⊥
@@ -207,14 +208,11 @@ module _ (costs : List ℕ) (from : ℕ) (low : from < 100) {l : List ℕ} {n : 
           top (inl a) = absurd (omega (arith, whole i h a))
           top (inr a) = a
 
-  told : n ≤ 101 → Spread (moves costs from) l n
+  told : moves_in l n ≡ moves costs from
   unfolding moves_in
-  told few = record {
-    long = all.long;
-    few = few;
-    found = ext_get_or 0 (tabulate (moves_by l n) 100 0) (moves costs from) (length_tabulate (moves_by l n) 100 0 ∙ sym (moves_long costs from low))
-        (λ i h. let b : i < 100 = omega (arith, length_tabulate (moves_by l n) 100 0) in tabulate_at (moves_by l n) 100 i 0 b ∙ by_is i b);
-  }
+  told =
+      ext_get_or 0 (tabulate (moves_by l n) 100 0) (moves costs from) (length_tabulate (moves_by l n) 100 0 ∙ sym (moves_long costs from low))
+      (λ i h. let b : i < 100 = omega (arith, length_tabulate (moves_by l n) 100 0) in tabulate_at (moves_by l n) 100 i 0 b ∙ by_is i b)
 
 -- ---- as `moves_at` reads them
 module _ (l : List ℕ) (n i : ℕ) (low : i < 100) {k : ℕ} (is : k ≡ missing l n i) where
@@ -222,11 +220,11 @@ module _ (l : List ℕ) (n i : ℕ) (low : i < 100) {k : ℕ} (is : k ≡ missin
   unfolding moves_in
   told_at = tabulate_at (moves_by l n) 100 i 0 low
 
-  pub told_some : k < n → k ≡ get_or (moves_in l n) i 0
+  pub told_some : n ≤ 101 → k < n → Some k ≡ moves_or_none (get_or (moves_in l n) i 0)
   unfolding moves_by
-  told_some h = rw (told_at, ← is, lt-ltb k n h) refl
+  told_some few h = rw (told_at, ← is, lt-ltb k n h, lt-ltb k 255 (omega arith)) refl
 
-  pub told_none : n ≤ k → 255 ≡ get_or (moves_in l n) i 0
+  pub told_none : n ≤ k → None ≡ moves_or_none (get_or (moves_in l n) i 0)
   unfolding moves_by
   told_none h = rw (told_at, ← is, le-ltb k n h) refl
 
@@ -241,24 +239,23 @@ start_shut costs from h e = rw (get_or_default costs from 255 0 h, eq-eqb (get_o
 
 module _ (costs : List ℕ) (from : ℕ) (long : length costs ≡ 100) (low : from < 100) {l : List ℕ} where
   -- from a blocked cell
-  pub spread_blocked : get_or costs from 0 ≡ 255 → Levels (far costs from) l 1 → Spread (moves costs from) l 1
-  spread_blocked e all = told costs from low all (λ i h m. whole i (far_blocked costs from low (start_shut costs from (omega arith) e) i h m)) (omega arith)
+  pub spread_blocked : get_or costs from 0 ≡ 255 → Levels (far costs from) l 1 → moves_in l 1 ≡ moves costs from
+  spread_blocked e all = told costs from low all (λ i h m. whole i (far_blocked costs from low (start_shut costs from (omega arith) e) i h m))
     where
       whole : (i : ℕ) → i ≡ from → far costs from i < 1
       whole i z = omega (arith, far_start costs from low, ap (λ (k : ℕ). far costs from k) z)
 
   -- with a level for each count of moves that there can be
-  pub spread_last : Levels (far costs from) l 101 → Spread (moves costs from) l 101
-  spread_last all = told costs from low all (λ i h m. omega (arith, far_few costs from low i h m)) (omega arith)
+  pub spread_last : Levels (far costs from) l 101 → moves_in l 101 ≡ moves costs from
+  spread_last all = told costs from low all (λ i h m. omega (arith, far_few costs from low i h m))
 
-  module _ (n : get_or costs from 0 ≡ 255 → ⊥) {words : List ℕ} (given : words ≡ open_words costs) {l₀ : List ℕ} {d change : ℕ} (few : d < 100) (g : Grown words d l₀ l change)
+  module _ (n : get_or costs from 0 ≡ 255 → ⊥) {words : List ℕ} (given : words ≡ open_words costs) {l₀ : List ℕ} {d : ℕ} {grew : Bool} (few : d < 100) (g : Grown words d l₀ l grew)
       (all : Levels (far costs from) l₀ (d + 1)) where
     pub spread_more : Levels (far costs from) l (d + 1 + 1)
     spread_more = levels_more costs from low (start_open costs from (omega arith) n) given few g all
 
     -- with a level that is the one before
-    pub spread_still : change ≡ 0 → Spread (moves costs from) l (d + 1)
+    pub spread_still : grew ≡ false → moves_in l (d + 1) ≡ moves costs from
     spread_still z =
         told costs from low (record { long = spread_more.long; each = λ e h. spread_more.each e (omega arith) })
         (whole_still costs from low (start_open costs from (omega arith) n) given few g all z)
-        (omega arith)

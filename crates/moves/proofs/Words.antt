@@ -5,9 +5,10 @@ use native.Mathlib.Numerals.{add-one}
 use native.Mathlib.Omega.{arith}
 use mathlib.Core.Path.{◌≡◌, refl, sym, ap, ap₂, ◌∙◌}
 use mathlib.Core.Logic.{◌⊎◌, inl, inr}
-use mathlib.Core.Bool.{true, false}
+use mathlib.Core.Bool.{Bool, true, false, not}
 use mathlib.Core.List.{List}
 use lib.Bits.{bit_or, bit_xor}
+use lib.Dec.{eqb}
 use lib.ListN.{length, get_or, set, length-set}
 use lib.Pow.{shl_exact}
 use lib.Seq.{get_or-set_same, get_or-set_other}
@@ -365,17 +366,21 @@ packed_more row y e f small l = rw (add-one y, e, f, shl_exact 10 (y * 11) 64 sm
 pub grown_is : (words l₀ : List ℕ) (d : ℕ) {a b : ℕ} → d * 2 + 3 < length l₀
     → a ≡ grown_word (get_or words 0 0) (get_or l₀ (d * 2) 0) (get_or l₀ (d * 2 + 1) 0 * 2 ^ 44 % 2 ^ 64)
     → b ≡ grown_word (get_or words 1 0) (get_or l₀ (d * 2 + 1) 0) (get_or l₀ (d * 2) 0 / 2 ^ 44)
-    → Grown words d l₀ (set (set l₀ (d * 2 + 2) a) (d * 2 + 3) b) (bit_or (bit_xor a (get_or l₀ (d * 2) 0)) (bit_xor b (get_or l₀ (d * 2 + 1) 0)))
+    → Grown words d l₀ (set (set l₀ (d * 2 + 2) a) (d * 2 + 3) b) (not (eqb (bit_or (bit_xor a (get_or l₀ (d * 2) 0)) (bit_xor b (get_or l₀ (d * 2 + 1) 0))) 0))
 grown_is words l₀ d {a} {b} h e f = record {
   long = length-set (set l₀ (d * 2 + 2) a) (d * 2 + 3) b ∙ length-set l₀ (d * 2 + 2) a;
   before = λ k m. get_or-set_other (set l₀ (d * 2 + 2) a) (d * 2 + 3) k b 0 (λ q. omega arith) ∙ get_or-set_other l₀ (d * 2 + 2) k a 0 (λ q. omega arith);
   upper = first ∙ e ∙ ap (λ (k : ℕ). grown_word (get_or words 0 0) (get_or l₀ k 0) (get_or l₀ (d * 2 + 1) 0 * 2 ^ 44 % 2 ^ 64)) (sym (add-zero (d * 2)));
   lower = second ∙ f ∙ ap (λ (k : ℕ). grown_word (get_or words 1 0) (get_or l₀ (d * 2 + 1) 0) (get_or l₀ k 0 / 2 ^ 44)) (sym (add-zero (d * 2)));
-  still = λ z k m. kept (or_none (bit_xor a (get_or l₀ (d * 2) 0)) (bit_xor b (get_or l₀ (d * 2 + 1) 0)) z) k m (below_or k 1);
+  still = λ z k m. kept (or_none (bit_xor a (get_or l₀ (d * 2) 0)) (bit_xor b (get_or l₀ (d * 2 + 1) 0)) (eqb-true _ 0 (not_false _ z))) k m (below_or k 1);
 }
   where
     l : List ℕ
     l = set (set l₀ (d * 2 + 2) a) (d * 2 + 3) b
+
+    not_false : (t : Bool) → not t ≡ false → t ≡ true
+    not_false true z = refl
+    not_false false z = cc
 
     first : word_at l (d + 1) 0 ≡ a
     first =

@@ -1,5 +1,5 @@
 -- A sector's cells as two words of bits, and the levels of a spread of moves: level d has the cells that at most d moves reach.
-use Rattle.std.specs.Prelude.{ℕ, zero, suc, ◌+◌, ◌-◌, ◌*◌, ◌/◌, ◌%◌, ◌^◌, ◌≤◌, ◌<◌, ◌≡◌, List, ltb, eqb, length, get_or}
+use Rattle.std.specs.Prelude.{Bool, false, if◌then◌else◌, Option, Some, None, ℕ, zero, suc, ◌+◌, ◌-◌, ◌*◌, ◌/◌, ◌%◌, ◌^◌, ◌≤◌, ◌<◌, ◌≡◌, List, ltb, eqb, length, get_or}
 use Rattle.std.specs.Int.Bits.{bit_and, bit_or}
 use Rattle.laws.specs.Fold.{pick}
 use Rattle.laws.specs.Table.{tabulate}
@@ -45,13 +45,13 @@ grown_word cells word across = bit_and (around word across) cells
 abbrev pub word_at : List ℕ → ℕ → ℕ → ℕ
 word_at levels d h = get_or levels (d * 2 + h) 0
 
--- level d + 1 is made; it is level d if `change` is 0
-pub record Grown (words : List ℕ) (d : ℕ) (l₀ l : List ℕ) (change : ℕ) : Type 0 where
+-- level d + 1 is made; it is level d unless it has grown
+pub record Grown (words : List ℕ) (d : ℕ) (l₀ l : List ℕ) (grew : Bool) : Type 0 where
   pub long : length l ≡ length l₀
   pub before : (k : ℕ) → k < d * 2 + 2 → get_or l k 0 ≡ get_or l₀ k 0
   pub upper : word_at l (d + 1) 0 ≡ grown_word (get_or words 0 0) (word_at l₀ d 0) (word_at l₀ d 1 * 2 ^ 44 % 2 ^ 64)
   pub lower : word_at l (d + 1) 1 ≡ grown_word (get_or words 1 0) (word_at l₀ d 1) (word_at l₀ d 0 / 2 ^ 44)
-  pub still : change ≡ 0 → (h : ℕ) → h < 2 → word_at l (d + 1) h ≡ word_at l₀ d h
+  pub still : grew ≡ false → (h : ℕ) → h < 2 → word_at l (d + 1) h ≡ word_at l₀ d h
 
 -- ---- the moves that levels tell
 -- the bit of cell i in level d
@@ -70,8 +70,6 @@ moves_by levels n i = pick (ltb (missing levels n i) n) (missing levels n i) apa
 unfoldable pub moves_in : List ℕ → ℕ → List ℕ
 moves_in levels n = tabulate (moves_by levels n) 100 0
 
--- n levels that tell the moves d
-pub record Spread (d : List ℕ) (l : List ℕ) (n : ℕ) : Type 0 where
-  pub long : length l ≡ 202
-  pub few : n ≤ 101
-  pub found : moves_in l n ≡ d
+-- a count of moves, and none where it is `apart`
+abbrev pub moves_or_none : ℕ → Option ℕ
+moves_or_none n = if ltb n apart then Some n else None

@@ -9,7 +9,6 @@ ghost use Rattle.graph.specs.EdgeTable.{Opened, table_graph};
 ghost use Rattle.path.specs.Following.{Linked, Best};
 
 use fields::sectors::{SECTOR_CELLS, sectors};
-use fields::sides::side_number;
 use graph::portals::{SECTOR_PORTALS, head_of, portal_run, portal_sector, portal_side};
 use model::{Measures, Side};
 
@@ -35,7 +34,7 @@ fn node_rank(st: &[u8], m: Measures, p: usize) -> usize
     let run = portal_run(st, m, p);
     let first = border_rank(side, run.first);
     let last = border_rank(side, run.last);
-    ((portal_sector(p) * SECTOR_CELLS + first) * SECTOR_CELLS + last) * 4 + side_number(side)
+    ((portal_sector(p) * SECTOR_CELLS + first) * SECTOR_CELLS + last) * 4 + side as usize
 }
 
 // Whether portal v comes before the best so far; the number of all portals says that there is none yet.

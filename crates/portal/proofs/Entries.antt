@@ -13,6 +13,7 @@ use borrow.Rule.Slice.PartMut.{put_mid}
 use Rattle.laws.specs.Table.{tabulate, length_tabulate, tabulate_more}
 use Rattle.model.specs.declared.PortalWindow.{PortalWindow}
 use Rattle.model.specs.declared.Side.{Side}
+use Rattle.fields.specs.Sides.{sides_at}
 use Rattle.model.specs.Cells.{side_number, side_at}
 use Rattle.model.specs.Windows.{border, window_count, window_at, side_windows}
 use Rattle.model.specs.WindowRuns.{window_run}
@@ -171,22 +172,19 @@ sum_fits {marks} {count} {k} r f l e = omega (arith, r.counted, few_by f (suc k)
 pub triple_fits : {marks : List ℕ} {count k : ℕ} {xs t : List ℕ} → SectorFilled marks count k xs t → FourMarks marks → Fits w64 (3 * count)
 triple_fits {marks} {count} {k} r f = omega (arith, r.counted, r.filled.within, few_by f k r.filled.within)
 
-pub ruleset filling = (sector_none, sector_start, sector_room, sector_turn, sector_end, sector_count, four_small, sum_fits, triple_fits)
+pub ruleset filling = (sides_at, sector_none, sector_start, sector_room, sector_turn, sector_end, sector_count, four_small, sum_fits, triple_fits)
 
 -- ---- how many windows a sector has
-pub number_is : (marks : List ℕ) {a b d e : ℕ} → (get_or marks 0 0 ≤ 1023 → a ≡ window_count (get_or marks 0 0)) → (get_or marks 1 0 ≤ 1023 → b ≡ window_count (get_or marks 1 0))
-    → (get_or marks 2 0 ≤ 1023 → d ≡ window_count (get_or marks 2 0)) → (get_or marks 3 0 ≤ 1023 → e ≡ window_count (get_or marks 3 0)) → FourMarks marks → a + b + d + e ≡ length (windows_by marks 4)
-number_is marks n₀ n₁ n₂ n₃ f =
-    let none : length (windows_by marks 0) ≡ 0 = omega (arith, few_by f 0 (omega arith)) in
-    omega (
-      arith,
-      none,
-      length_by marks 0,
-      length_by marks 1,
-      length_by marks 2,
-      length_by marks 3,
-      n₀ (f.small 0 (omega arith)),
-      n₁ (f.small 1 (omega arith)),
-      n₂ (f.small 2 (omega arith)),
-      n₃ (f.small 3 (omega arith)),
-    )
+-- the windows of the first k sides are counted
+pub record Counted (marks : List ℕ) (k count : ℕ) : Type 0 where
+  pub few : count ≤ 16 * k
+  pub is : FourMarks marks → count ≡ length (windows_by marks k)
+
+pub counted_none : (marks : List ℕ) → Counted marks 0 0
+unfolding windows_by
+counted_none marks = record { few = omega arith; is = λ f. refl }
+
+pub counted_more : {marks : List ℕ} {k count n : ℕ} → Counted marks k count → k < 4 → n ≤ 16 → (get_or marks k 0 ≤ 1023 → n ≡ window_count (get_or marks k 0)) → Counted marks (k + 1) (count + n)
+counted_more {marks} {k} r l few e = record { few = omega (arith, r.few); is = λ f. rw add-one (omega (arith, r.is f, length_by marks k, e (f.small k l))) }
+
+pub ruleset counting = (counted_none, counted_more)

@@ -1,4 +1,4 @@
--- Border cells: two rows of ten cells are those of a side, and a place of a side has the index of its cell.
+-- Border cells: a place of a side has the index of its cell.
 use mathlib.Core.Path.{◌≡◌, sym, ap, ◌∙◌}
 use mathlib.Core.List.{List}
 use Prim.Native.Nat.{ℕ, ◌<◌}
@@ -11,11 +11,6 @@ use Rattle.model.specs.declared.Side.{Side}
 use Rattle.model.specs.Cells.{index_of, cell_at, opposite}
 use Rattle.model.specs.CellSides.{border_low}
 use Rattle.model.specs.Windows.{border_cell, border, border_cells}
-
-pub border_is : (side v : Side) (own facing : List FieldCell) → side ≡ v → own ≡ tabulate (border_cell v) 10 0 → facing ≡ tabulate (border_cell (opposite v)) 10 0
-    → ◌≡◌ {A = BorderCells} (record { own = own; facing = facing }) (border_cells side)
-unfolding border_cells
-border_is side v own facing e o f = (λ i. record { own = o i; facing = f i }) ∙ ap border_cells (sym e)
 
 -- ---- place i of a side's border cells
 module _ {cells : BorderCells} (side : Side) (e : cells ≡ border_cells side) (i : ℕ) (h : i < 10) where

@@ -1,4 +1,3 @@
-pub mod Border
 pub mod Runs
 pub mod Marks
 pub mod SectorWindows

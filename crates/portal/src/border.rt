@@ -2,69 +2,45 @@
 ghost use Rattle.std.specs.Prelude.{◌≡◌, ◌<◌};
 ghost use Rattle.laws.specs.Table.{tabulate};
 ghost use Rattle.model.specs.Cells.{index_of};
-ghost use Rattle.model.specs.Windows.{border, border_cells};
-ghost use Rattle.portal.specs.Border.{row_cell, column_cell};
+ghost use Rattle.model.specs.Windows.{border, border_cell, border_cells};
 
-use fields::numbers::{byte, wide};
+use fields::sides::opposite;
 use model::{BorderCells, FieldCell, Side};
+use std::array::from_fn;
 
-// The cells of a row, from the west.
-fn row_cells(row: u8) -> [FieldCell; 10]
-    ensures { result ≡ tabulate (row_cell row) 10 0 }
+// The ten border cells of a side, from the west or from the north.
+#[tactic(auto, unfolding(laws::specs::Table::tabulate))]
+fn side_cells(side: Side) -> [FieldCell; 10]
+    ensures { result ≡ tabulate (border_cell side) 10 0 }
 {
-    [
-        FieldCell { column: 0, row },
-        FieldCell { column: 1, row },
-        FieldCell { column: 2, row },
-        FieldCell { column: 3, row },
-        FieldCell { column: 4, row },
-        FieldCell { column: 5, row },
-        FieldCell { column: 6, row },
-        FieldCell { column: 7, row },
-        FieldCell { column: 8, row },
-        FieldCell { column: 9, row },
-    ]
-}
-
-// The cells of a column, from the north.
-fn column_cells(column: u8) -> [FieldCell; 10]
-    ensures { result ≡ tabulate (column_cell column) 10 0 }
-{
-    [
-        FieldCell { column, row: 0 },
-        FieldCell { column, row: 1 },
-        FieldCell { column, row: 2 },
-        FieldCell { column, row: 3 },
-        FieldCell { column, row: 4 },
-        FieldCell { column, row: 5 },
-        FieldCell { column, row: 6 },
-        FieldCell { column, row: 7 },
-        FieldCell { column, row: 8 },
-        FieldCell { column, row: 9 },
-    ]
+    match side {
+        Side::North => from_fn(|place| FieldCell {
+            column: place as u8,
+            row: 0,
+        }),
+        Side::East => from_fn(|place| FieldCell {
+            column: 9,
+            row: place as u8,
+        }),
+        Side::South => from_fn(|place| FieldCell {
+            column: place as u8,
+            row: 9,
+        }),
+        Side::West => from_fn(|place| FieldCell {
+            column: 0,
+            row: place as u8,
+        }),
+    }
 }
 
 // The ten border cells of a side, and those of the side that it faces.
+#[tactic(auto, unfolding(model::specs::Windows::border_cells))]
 pub fn boundary_field_cells(side: Side) -> BorderCells
     ensures { result ≡ border_cells side }
 {
-    match side {
-        Side::North => BorderCells {
-            own: row_cells(0),
-            facing: row_cells(9),
-        },
-        Side::East => BorderCells {
-            own: column_cells(9),
-            facing: column_cells(0),
-        },
-        Side::South => BorderCells {
-            own: row_cells(9),
-            facing: row_cells(0),
-        },
-        Side::West => BorderCells {
-            own: column_cells(0),
-            facing: column_cells(9),
-        },
+    BorderCells {
+        own: side_cells(side),
+        facing: side_cells(opposite(side)),
     }
 }
 
@@ -72,15 +48,14 @@ pub fn boundary_field_cells(side: Side) -> BorderCells
 pub fn cell_index(cell: FieldCell) -> usize
     ensures { (result ≡ index_of cell) × (result < 3000) }
 {
-    wide(cell.row) * 10 + wide(cell.column)
+    usize::from(cell.row) * 10 + usize::from(cell.column)
 }
 
 // The index of the cell at a place of a side.
+#[tactic(auto, using(crate::proofs::Sides::index_is, crate::proofs::Sides::index_small))]
 pub fn border_index(side: Side, place: usize) -> u8
     requires { place < 10 }
     ensures { result ≡ border side place }
 {
-    let cells = boundary_field_cells(side);
-    let own = cells.own;
-    byte(cell_index(own[place]))
+    cell_index(boundary_field_cells(side).own[place]) as u8
 }

@@ -6,7 +6,7 @@ ghost use Rattle.portal.specs.Marks.{open_pair, open_between};
 use crate::border::{boundary_field_cells, cell_index};
 use fields::bits::with_place;
 use fields::costs::open_at;
-use fields::sectors::{SECTOR_CELLS, beyond, has_beyond};
+use fields::sectors::{SECTOR_CELLS, neighbour};
 use model::{BorderCells, FieldCell, Measures, Side};
 
 // Whether a place is open: its cell in sector s, and the one that it faces in sector t.
@@ -14,24 +14,19 @@ fn open_place(costs: &[u8], s: usize, own: FieldCell, t: usize, facing: FieldCel
     requires { (s ≤ 20000) × (t ≤ 20000) }
     ensures { result ≡ open_pair costs.now s own t facing }
 {
-    if open_at(costs, s * SECTOR_CELLS + cell_index(own)) {
-        return open_at(costs, t * SECTOR_CELLS + cell_index(facing));
-    }
-    false
+    open_at(costs, s * SECTOR_CELLS + cell_index(own))
+        && open_at(costs, t * SECTOR_CELLS + cell_index(facing))
 }
 
 // The mark of two rows of cells that face each other, from its last place down.
+#[tactic(auto, using(fields::specs::Bits::marking))]
 fn cells_mark(costs: &[u8], s: usize, t: usize, cells: BorderCells) -> u16
     requires { (s ≤ 20000) × (t ≤ 20000) }
     ensures { result ≡ bits (open_between costs.now s cells.own t cells.facing) 10 }
 {
-    let own = cells.own;
-    let facing = cells.facing;
-    let mut mark = 0u16;
-    let mut i = 10;
-    while 0 < i {
-        i -= 1;
-        mark = with_place(mark, open_place(costs, s, own[i], t, facing[i]));
+    let mut mark = 0;
+    for i in (0..10).rev() {
+        mark = with_place(mark, open_place(costs, s, cells.own[i], t, cells.facing[i]));
     }
     mark
 }
@@ -41,8 +36,8 @@ pub fn side_mark(m: Measures, costs: &[u8], s: usize, side: Side) -> u16
     requires { (1 ≤ m.rows) × (s ≤ 10000) }
     ensures { result ≡ mark_of m costs.now s side }
 {
-    if has_beyond(m, s, side) {
-        return cells_mark(costs, s, beyond(m, s, side), boundary_field_cells(side));
+    match neighbour(m, s, side) {
+        Some(t) => cells_mark(costs, s, t, boundary_field_cells(side)),
+        None => 0,
     }
-    0
 }

@@ -13,15 +13,16 @@ pub struct OpenRun {
 // The first window of a mark, and the mark without it.
 #[derive(Drop)]
 struct RunAndRest {
-    pub run: OpenRun,
-    pub rest: u16,
+    run: OpenRun,
+    rest: u16,
 }
 
 // How many windows a mark has: its ones with a zero below them.
+#[tactic(auto, using(crate::proofs::AllMarks::few_ones, crate::proofs::AllMarks::count_is))]
 pub fn window_count(mark: u16) -> usize
     ensures { (result ≤ 16) × (mark ≤ 1023 → result ≡ window_count mark) }
 {
-    u16::count_ones(mark & !(mark << 1)) as usize
+    (mark & !(mark << 1)).count_ones() as usize
 }
 
 // The first window of a mark: its zeros below give the first place, and the ones from there on the width.
@@ -29,8 +30,8 @@ fn first_run(mark: u16) -> RunAndRest
     requires { (0 < mark) × (mark ≤ 1023) }
     ensures { (result.run ≡ places_of mark 0) × (result.rest ≡ rest_of mark) }
 {
-    let first = u16::trailing_zeros(mark);
-    let width = u16::trailing_zeros(!(mark >> first));
+    let first = mark.trailing_zeros();
+    let width = (!(mark >> first)).trailing_zeros();
     let past = first + width;
     RunAndRest {
         run: OpenRun {
@@ -42,17 +43,14 @@ fn first_run(mark: u16) -> RunAndRest
 }
 
 // Window j of a mark: the first that is left without the j before it.
+#[tactic(auto, using(crate::proofs::AllMarks::passing))]
 pub fn window_at(mark: u16, j: usize) -> OpenRun
     requires { (mark ≤ 1023) × (j < window_count mark) }
     ensures { result ≡ places_of mark j }
 {
     let mut left = mark;
-    let mut k = 0;
-    while k < j {
-        let s = first_run(left);
-        left = s.rest;
-        k += 1;
+    for _passed in 0..j {
+        left = first_run(left).rest;
     }
-    let s = first_run(left);
-    s.run
+    first_run(left).run
 }

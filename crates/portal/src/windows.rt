@@ -5,11 +5,11 @@ ghost use Rattle.portal.specs.SectorWindows.{windows_by, FourMarks, over};
 
 use crate::border::border_index;
 use crate::runs::{window_at, window_count};
-use fields::numbers::byte;
-use fields::sides::{side_at, side_number};
+use fields::sides::SIDES;
 use model::{PortalWindow, Side};
 
 // Window j of a side, by its first and last cell.
+#[tactic(auto, using(crate::proofs::Entries::inside, crate::proofs::Entries::window_is))]
 pub fn window_of(side: Side, mark: u16, j: usize) -> PortalWindow
     requires { (mark ≤ 1023) × (j < window_count mark) }
     ensures { result ≡ window_at side mark j }
@@ -18,11 +18,12 @@ pub fn window_of(side: Side, mark: u16, j: usize) -> PortalWindow
     PortalWindow {
         first: border_index(side, run.first),
         last: border_index(side, run.last),
-        side: byte(side_number(side)),
+        side: side as u8,
     }
 }
 
 // One entry, at the front of a list.
+#[tactic(auto, using(crate::proofs::Entries::set_three), unfolding(model::specs::Calls::flat_windows))]
 fn put_window(list: &mut [u8], w: PortalWindow)
     requires { 3 ≤ length list.old }
     ensures { list.new ≡ over (w ∷ []) list.old }
@@ -33,16 +34,14 @@ fn put_window(list: &mut [u8], w: PortalWindow)
 }
 
 // The windows of a side, at the front of a list, and how many there are.
+#[tactic(auto, using(crate::proofs::Entries::siding))]
 fn side_windows(list: &mut [u8], side: Side, mark: u16) -> usize
     requires { (mark ≤ 1023) × (3 * window_count mark ≤ length list.old) }
     ensures { (result ≡ window_count mark) × (list.new ≡ over (side_windows side mark) list.old) }
 {
     let count = window_count(mark);
-    let mut j = 0;
-    while j < count {
-        let at = 3 * j;
-        put_window(&mut list[at..], window_of(side, mark, j));
-        j += 1;
+    for j in 0..count {
+        put_window(&mut list[3 * j..], window_of(side, mark, j));
     }
     count
 }
@@ -51,23 +50,22 @@ fn side_windows(list: &mut [u8], side: Side, mark: u16) -> usize
 pub fn windows_number(marks: [u16; 4]) -> usize
     ensures { FourMarks marks → result ≡ length (windows_by marks 4) }
 {
-    window_count(marks[0])
-        + window_count(marks[1])
-        + window_count(marks[2])
-        + window_count(marks[3])
+    let mut count = 0;
+    for mark in marks {
+        count += window_count(mark);
+    }
+    count
 }
 
 // The windows of a sector, N, E, S, W, at the front of a list, and how many there are.
+#[tactic(auto, using(crate::proofs::Entries::filling))]
 pub fn sector_windows(list: &mut [u8], marks: [u16; 4]) -> usize
     requires { FourMarks marks × (3 * length (windows_by marks 4) ≤ length list.old) }
     ensures { (result ≡ length (windows_by marks 4)) × (list.new ≡ over (windows_by marks 4) list.old) }
 {
     let mut count = 0;
-    let mut k = 0;
-    while k < 4 {
-        let at = 3 * count;
-        count += side_windows(&mut list[at..], side_at(k), marks[k]);
-        k += 1;
+    for (k, side) in SIDES.iter().enumerate() {
+        count += side_windows(&mut list[3 * count..], *side, marks[k]);
     }
     count
 }

@@ -1,5 +1,5 @@
 -- What a route found becomes in the call's answer and in the lent list, and the cases in which code finds it.
-use Rattle.std.specs.Prelude.{ℕ, ◌+◌, ◌*◌, ◌/◌, ◌%◌, ◌≤◌, ◌<◌, ◌≡◌, Bool, List, [], ◌∷◌, ◌++◌, get_or, take, drop}
+use Rattle.std.specs.Prelude.{if◌then◌else◌, Some, None, ℕ, ◌+◌, ◌*◌, ◌/◌, ◌%◌, ◌≤◌, ◌<◌, ◌≡◌, Bool, List, [], ◌∷◌, ◌++◌, get_or, take, drop}
 use Rattle.std.proofs.Common.{arith, sym, ◌∙◌, length-append, length-drop, take_at, lt-ltb, le-ltb}
 use Rattle.std.proofs.Math.Path.{refl, ap}
 use Rattle.std.proofs.Math.Bool.{true, false}
@@ -7,6 +7,7 @@ use Rattle.std.proofs.Math.Option.{Option}
 use Rattle.std.proofs.Math.Dec.{ltb}
 use Rattle.std.proofs.Math.ListN.{length}
 use Rattle.laws.specs.Fold.{pick}
+use Rattle.laws.specs.Options.{some_if, none_if}
 use Rattle.model.specs.declared.Measures.{Measures}
 use Rattle.model.specs.declared.RouteStep.{RouteStep}
 use Rattle.model.specs.declared.Routed.{Routed}
@@ -123,20 +124,11 @@ module _ (h : Hall) where
           (rw is r.0, r.1)
 
 -- ---- the one-sector case
-module _ (h : Hall) (source goal : ℕ) {moves : ℕ} (is : moves ≡ pick (joined h.scaled source goal) (moves_to h.scaled source goal) apart) where
-  pub apart_found : moves ≡ apart → through_portals h (portal_graph h) source goal ≡ route_of h source goal
+module _ (h : Hall) (source goal : ℕ) where
+  pub apart_found : None ≡ (if joined h.scaled source goal then Some (moves_to h.scaled source goal) else None) → through_portals h (portal_graph h) source goal ≡ route_of h source goal
   unfolding route_of
-  apart_found e = go (joined h.scaled source goal) refl is
-    where
-      go : (t : Bool) → joined h.scaled source goal ≡ t → moves ≡ pick t (moves_to h.scaled source goal) apart
-          → through_portals h (portal_graph h) source goal ≡ pick t (one_step h source goal) (through_portals h (portal_graph h) source goal)
-      go false f g = refl
-      go true f g = absurd (omega (arith, (joined_is h.scaled source goal f).near))
+  apart_found e = rw (none_if (joined h.scaled source goal) (moves_to h.scaled source goal) e) refl
 
-  pub joined_found : moves < apart → last_route h.measures goal moves ≡ route_of h source goal
+  pub joined_found : {moves : ℕ} → Some moves ≡ (if joined h.scaled source goal then Some (moves_to h.scaled source goal) else None) → last_route h.measures goal moves ≡ route_of h source goal
   unfolding route_of one_step
-  joined_found l = go (joined h.scaled source goal) is
-    where
-      go : (t : Bool) → moves ≡ pick t (moves_to h.scaled source goal) apart → last_route h.measures goal moves ≡ pick t (one_step h source goal) (through_portals h (portal_graph h) source goal)
-      go true g = rw g
-      go false g = absurd (omega arith)
+  joined_found e = let some = some_if (joined h.scaled source goal) (moves_to h.scaled source goal) e in rw (some.0, some.1) refl

@@ -14,7 +14,6 @@ use graph::edges::{KEY_STEP, fill_edges};
 use graph::near::{moves_to, portal_moves};
 use graph::portals::{HALL_ARCS, HALL_PORTALS, SECTOR_ARCS, SECTOR_PORTALS};
 use model::{Measures, Routed};
-use moves::spread::APART;
 use path::least::least_path;
 use path::steps::{step_count, write_last, write_steps};
 use search::keys::keys_to;
@@ -84,10 +83,8 @@ fn through_lists(
     ensures answer { result ≡ found_answer (through_portals (decode st.now) (portal_graph (decode st.now)) source goal) }
     ensures steps { list.new ≡ found_into (through_portals (decode st.now) (portal_graph (decode st.now)) source goal) list.old }
 {
-    let mut legs: [u8; SECTOR_PORTALS] = [APART; SECTOR_PORTALS];
-    let mut lasts: [u8; SECTOR_PORTALS] = [APART; SECTOR_PORTALS];
-    portal_moves(st, m, source, &mut legs);
-    portal_moves(st, m, goal, &mut lasts);
+    let legs = portal_moves(st, m, source);
+    let lasts = portal_moves(st, m, goal);
     fill_edges(st, m, table);
     let p = source / SECTOR_CELLS * SECTOR_PORTALS;
     let q = goal / SECTOR_CELLS * SECTOR_PORTALS;
@@ -148,9 +145,8 @@ pub fn find_path(st: &[u8], m: Measures, source: usize, goal: usize, list: &mut 
     ensures answer { result ≡ found_answer (route_of (decode st.now) source goal) }
     ensures steps { list.new ≡ found_into (route_of (decode st.now) source goal) list.old }
 {
-    let moves = moves_to(st, m, source, goal);
-    if moves == APART {
-        return through_portals(st, m, source, goal, list);
+    match moves_to(st, m, source, goal) {
+        Some(moves) => one_step(m, goal, moves, list),
+        None => through_portals(st, m, source, goal, list),
     }
-    one_step(m, goal, moves, list)
 }

@@ -10,7 +10,7 @@ ghost use Rattle.store.specs.Stored.{held};
 
 use crate::layout::{Store, size_of};
 use fields::sectors::{cells, sectors};
-use fields::sides::side_at;
+use fields::sides::SIDES;
 use model::{Measures, Side};
 
 #[tactic(auto, using(crate::proofs::Ranges::outside_is))]
@@ -113,12 +113,12 @@ fn any_in(store: &Store<'_>, line: EndLine, n: usize) -> bool
 }
 
 // Whether one is in the line of sectors at the end of side n.
-#[tactic(auto, using(crate::specs::Ends::end_within, crate::specs::Ends::side_found))]
+#[tactic(auto, using(crate::specs::Ends::end_within, crate::specs::Ends::side_found, fields::specs::Sides::sides_at))]
 fn any_at_end(store: &Store<'_>, n: usize) -> bool
     requires { n < 4 }
     ensures { result ≡ side_ends store.now.measures (held store.now).marks n }
 {
-    any_in(store, end_line(store.measures, side_at(n)), n)
+    any_in(store, end_line(store.measures, SIDES[n]), n)
 }
 
 // Whether one is at the end of any side.

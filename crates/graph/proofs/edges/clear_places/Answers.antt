@@ -1,7 +1,8 @@
--- `clear_places` puts 0 in each place of one number.
-use mathlib.Core.Path.{refl}
-use Rattle.graph.specs.EdgeTable.{row_more}
+-- `clear_places` puts zeros in the places of one number.
+use borrow.Author.Rules.{rules}
+use native.Mathlib.Omega.{arith}
+use Rattle.graph.specs.EdgeTable.{row_clear}
 use Rattle.graph.proofs.edges.clear_places.Goals as goal
 
-pub loop-c-preserved : goal.loop-c-preserved
-loop-c-preserved c = row_more c.loop-c.invariant c.loop-c-test.true c.requires.1 refl
+pub returns : goal.returns
+returns c = row_clear _ _ _ (omega arith) c.requires.1 (search rules)

@@ -9,13 +9,13 @@ use Rattle.model.specs.Portals.{sector_arcs}
 use Rattle.graph.specs.EdgeTable.{filled_all}
 use Rattle.graph.specs.Reading.{measures_are}
 use Rattle.graph.proofs.edges.fill_edges.Goals as goal
-use Rattle.graph.proofs.edges.fill_edges.Goals.{After-sectors-n}
+use Rattle.graph.proofs.edges.fill_edges.Goals.{Start}
 
-are : (c : After-sectors-n) → sectors (decode c.args.st.now).measures ≡ sectors c.args.m
+are : (c : Start) → sectors (decode c.args.st.now).measures ≡ sectors c.args.m
 are c = ap sectors (measures_are c.requires.0)
 
 pub loop-s-init : goal.loop-s-init
-loop-s-init c = (omega arith, tabled_none _ _ _ (c.requires.1 ∙ ap (λ (k : ℕ). k * sector_arcs) (sym (are c))))
+loop-s-init c = tabled_none _ _ _ (c.requires.1 ∙ ap (λ (k : ℕ). k * sector_arcs) (sym (are (goal.at.loop-s-init c).Start)))
 
 pub returns : goal.returns
-returns c = filled_all (decode c.args.st.now) c.loop-s.invariant.1 (omega (arith, c.loop-s-test.false, are (goal.at.returns c).After-sectors-n, c.sectors-n.ensures))
+returns c = filled_all (decode c.args.st.now) c.loop-s.invariant (omega (arith, c.loop-s-test.false, are (goal.at.returns c).Start, c.sectors-s-end.ensures))

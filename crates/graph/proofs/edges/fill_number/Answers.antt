@@ -48,18 +48,16 @@ returns-then-mid-ge-NO_CROSSING c =
 pub fill_places-requires : goal.fill_places-requires
 fill_places-requires c =
     let start = (goal.at.fill_places-requires c).Start in
-    let spread = c.moves_from-n.ensures in
-    (spread.long, spread.few, mids_20 start, few start, room start)
+    (few start, room start)
 
 pub returns : goal.returns
 returns c =
     let start = (goal.at.returns c).Start in
-    let spread = c.moves_from-n.ensures in
-    let found = c.wide in
+    let found = c.from in
     let p = c.args.p in
     let own = own_some (H start) p c.requires.opened.2 c.if-mid-ge-NO_CROSSING.false in
     let moves =
-    moves_own (H start) p found.result (ap (λ (s : ℕ). floor_number s found.result) c.portal_sector.ensures) (found.ensures.0 ∙ own.1)
-    (omega (arith, found.ensures.0, c.if-mid-ge-NO_CROSSING.false)) spread.found in
+    moves_own (H start) p found.result (ap (λ (s : ℕ). floor_number s found.result) c.portal_sector.ensures) (found.ensures ∙ own.1)
+    (omega (arith, found.ensures, c.if-mid-ge-NO_CROSSING.false)) c.moves_from.ensures in
     c.fill_places.ensures.grown _ _ c.requires.opened.3
-    (λ k l. weight_by (H start) p k l (inside start k l) (fits_of c.requires.opened.0) own.0 moves c.requires.opened.2 c.outer_edge-outer.ensures)
+    (λ k l. weight_by (H start) p k l (inside start k l) (fits_of c.requires.opened.0) own.0 moves c.requires.opened.2 c.outer_edge.ensures)

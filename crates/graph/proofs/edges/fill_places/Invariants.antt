@@ -1,5 +1,4 @@
 -- `fill_places` takes the edge at each place of one portal.
-use Prim.Native.Nat.{◌-◌}
 use lib.ListN.{get_or}
 use Rattle.model.specs.Portals.{sector_portals, portal_place}
 use Rattle.moves.specs.Levels.{moves_in}
@@ -8,7 +7,4 @@ use Rattle.graph.specs.Weights.{edge_by}
 use Rattle.graph.proofs.edges.fill_places.Given as goal
 
 abbrev pub invariant-loop-c : goal.invariant-loop-c
-invariant-loop-c l = Row (λ k. edge_by (moves_in l.levels l.n) (get_or l.mids k 0) l.outer (portal_place l.p) k) l.p l.c l.initial.table l.table
-
-abbrev pub decreases-loop-c : goal.decreases-loop-c
-decreases-loop-c l = sector_portals - l.c
+invariant-loop-c l = Row (λ k. edge_by l.spread (get_or l.mids k 0) l.outer (portal_place l.p) k) l.p l.c l.initial.table l.table

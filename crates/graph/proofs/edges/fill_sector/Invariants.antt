@@ -1,6 +1,6 @@
 -- `fill_sector` fills the table number by number. The loop's invariant: the weights of the sector's numbers before place c stand in it.
 use mathlib.Core.Path.{◌≡◌}
-use Prim.Native.Nat.{◌+◌, ◌-◌, ◌*◌, ◌≤◌}
+use Prim.Native.Nat.{◌+◌, ◌*◌, ◌≤◌}
 use lib.ListN.{length}
 use Rattle.model.specs.Store.{decode}
 use Rattle.model.specs.Portals.{sector_portals, sector_arcs}
@@ -8,7 +8,4 @@ use Rattle.graph.specs.EdgeTable.{Filled}
 use Rattle.graph.proofs.edges.fill_sector.Given as goal
 
 abbrev pub invariant-loop-c : goal.invariant-loop-c
-invariant-loop-c l = (l.c ≤ sector_portals) × Filled (decode l.st) (l.s * sector_arcs + l.c * sector_portals) l.table × (length l.levels ≡ 202)
-
-abbrev pub decreases-loop-c : goal.decreases-loop-c
-decreases-loop-c l = sector_portals - l.c
+invariant-loop-c l = Filled (decode l.st) (l.s * sector_arcs + l.c * sector_portals) l.table

@@ -4,7 +4,7 @@ use Rattle.graph.specs.Near.{mid_some, mid_none}
 use Rattle.graph.proofs.near.mid_of.Goals as goal
 
 pub returns-then-is_portal : goal.returns-then-is_portal
-returns-then-is_portal c = mid_some _ _ (sym c.is_portal.ensures ∙ c.if-is_portal.true) (c.byte.ensures ∙ c.midpoint.ensures.0)
+returns-then-is_portal c = mid_some _ _ (sym c.is_portal.ensures ∙ c.if-is_portal.true) c.midpoint.ensures.0
 
-pub returns : goal.returns
-returns c = mid_none _ _ (sym c.is_portal.ensures ∙ c.if-is_portal.false)
+pub returns-else-is_portal : goal.returns-else-is_portal
+returns-else-is_portal c = mid_none _ _ (sym c.is_portal.ensures ∙ c.if-is_portal.false)

@@ -9,11 +9,10 @@ use Rattle.moves.specs.Levels.{open_words}
 use Rattle.graph.specs.Reading.{sector_read}
 use Rattle.graph.proofs.near.moves_from.Goals as goal
 
-pub spread-requires : goal.spread-requires
-spread-requires c =
-    (c.sector_part.ensures.1, c.requires.2 ∙ ap open_words (sym (sector_read c.requires.0 _ c.sector_part.ensures.0)), omega arith, c.requires.3)
+pub fill-requires : goal.fill-requires
+fill-requires c =
+    (c.sector_part.ensures.1, c.requires.2 ∙ ap open_words (sym (sector_read c.requires.0 _ c.sector_part.ensures.0)), omega arith)
 
 pub returns : goal.returns
 returns c =
-    let spread = c.spread.ensures in
-    record { long = spread.long; few = spread.few; found = spread.found ∙ ap (λ (k : List ℕ). moves k (place_of c.args.x)) (sector_read c.requires.0 _ c.sector_part.ensures.0) }
+    c.fill.ensures ∙ ap (λ (k : List ℕ). moves k (place_of c.args.x)) (sector_read c.requires.0 _ c.sector_part.ensures.0)

@@ -7,4 +7,4 @@ pub returns-then-x-y : goal.returns-then-x-y
 returns-then-x-y c = other_sector _ _ _ c.if-x-y.true
 
 pub returns : goal.returns
-returns c = c.moves_at.ensures ∙ same_sector _ _ _ c.if-x-y.false c.moves_from-n.ensures.found
+returns c = c.moves_at.ensures ∙ same_sector _ _ _ c.if-x-y.false c.moves_from.ensures

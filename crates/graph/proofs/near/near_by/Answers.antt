@@ -6,5 +6,5 @@ use Rattle.graph.proofs.near.near_by.Goals as goal
 pub returns-then-mid-ge-NO_CROSSING : goal.returns-then-mid-ge-NO_CROSSING
 returns-then-mid-ge-NO_CROSSING c = near_none _ _ c.if-mid-ge-NO_CROSSING.true
 
-pub returns : goal.returns
-returns c = c.moves_at.ensures ∙ near_some _ _ c.if-mid-ge-NO_CROSSING.false c.wide.ensures.0
+pub returns-else-mid-ge-NO_CROSSING : goal.returns-else-mid-ge-NO_CROSSING
+returns-else-mid-ge-NO_CROSSING c = c.moves_at.ensures ∙ rw c.from.ensures (near_some _ _ c.if-mid-ge-NO_CROSSING.false)

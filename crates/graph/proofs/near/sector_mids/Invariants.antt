@@ -1,5 +1,5 @@
 -- `sector_mids` takes the midpoint of each place.
-use Prim.Native.Nat.{◌+◌, ◌-◌, ◌*◌}
+use Prim.Native.Nat.{◌+◌, ◌*◌}
 use Rattle.laws.specs.Table.{Tabled}
 use Rattle.model.specs.Store.{decode}
 use Rattle.model.specs.Portals.{sector_portals}
@@ -7,7 +7,4 @@ use Rattle.graph.specs.Near.{mid_of}
 use Rattle.graph.proofs.near.sector_mids.Given as goal
 
 abbrev pub invariant-loop-c : goal.invariant-loop-c
-invariant-loop-c l = Tabled (λ k. mid_of (decode l.st) (l.s * sector_portals + k)) sector_portals l.c l.mids
-
-abbrev pub decreases-loop-c : goal.decreases-loop-c
-decreases-loop-c l = sector_portals - l.c
+invariant-loop-c l = Tabled (λ k. mid_of (decode l.st) (l.s * sector_portals + k)) sector_portals l.c l.mid-items

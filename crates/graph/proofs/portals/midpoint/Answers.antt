@@ -18,6 +18,6 @@ pub returns : goal.returns
 unfolding midpoint crossing
 returns c =
     let h = decode c.args.st.now in
-    let is = c.wide.ensures.0 ∙ c.border_index.ensures
+    let is = c.from.ensures ∙ c.border_index.ensures
     ∙ same (portal_mark h c.args.p) (portal_window c.args.p) c.portal_side.ensures c.portal_run-run.ensures.begins c.portal_run-run.ensures.ends in
     (is, omega (arith, is, mid_low h (fits_of c.requires.0) c.args.p c.requires.1))

@@ -6,6 +6,3 @@ use Rattle.moves.proofs.open_cells.row_mark.Given as goal
 
 abbrev pub invariant-loop-x : goal.invariant-loop-x
 invariant-loop-x l = Marked (λ k. open_at l.costs (l.y * 10 + k)) l.x l.mark
-
-abbrev pub decreases-loop-x : goal.decreases-loop-x
-decreases-loop-x l = l.x

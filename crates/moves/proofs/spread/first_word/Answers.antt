@@ -14,6 +14,6 @@ returns-then-h-from c =
     let small : 2 ^ spot from < 2 ^ 64 = pow-lt {i = spot from} {j = 64} (omega arith) in
     rw (eq-eqb c.args.h (from / 50) c.if-h-from.true, c.spot_of.ensures.0) (omega arith)
 
-pub returns : goal.returns
+pub returns-else-h-from : goal.returns-else-h-from
 unfolding first_word
-returns c = rw (ne_eqb c.args.h (c.args.from / 50) c.if-h-from.false) refl
+returns-else-h-from c = rw (ne_eqb c.args.h (c.args.from / 50) c.if-h-from.false) refl

@@ -1,11 +1,8 @@
 -- `lacking` counts the levels without the cell.
-use Prim.Native.Nat.{◌-◌, ◌≤◌}
+use Prim.Native.Nat.{◌≤◌}
 use mathlib.Core.Path.{◌≡◌}
 use Rattle.moves.specs.Levels.{missing}
 use Rattle.moves.proofs.spread.lacking.Given as goal
 
 abbrev pub invariant-loop-d : goal.invariant-loop-d
-invariant-loop-d l = (l.d ≤ l.n) × (l.lack ≤ l.d) × (l.lack ≡ missing l.levels l.d l.i)
-
-abbrev pub decreases-loop-d : goal.decreases-loop-d
-decreases-loop-d l = l.n - l.d
+invariant-loop-d l = (l.lack ≤ l.d) × (l.lack ≡ missing l.levels l.d l.i)

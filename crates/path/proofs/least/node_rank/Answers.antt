@@ -5,6 +5,7 @@ use Prim.Native.Nat.{ℕ, ◌<◌}
 use Rattle.model.specs.Windows.{border_cell}
 use Rattle.model.specs.Sides.{side_low}
 use Rattle.model.specs.LeastPath.{cell_rank}
+use Rattle.fields.specs.Sides.{cast_is}
 use Rattle.graph.specs.Reading.{accepted_of, portal_sector_lem}
 use Rattle.path.specs.Following.{rank_is}
 use Rattle.path.proofs.least.node_rank.Goals as goal
@@ -20,7 +21,7 @@ overflow_add-result-3 c = omega (
   sector (goal.at.overflow_add-result-3 c).After-portal_sector,
   c.border_rank-first.ensures.1,
   c.border_rank-last.ensures.1,
-  c.side_number.ensures,
+  cast_is c.portal_side-side.result,
   side_low c.portal_side-side.result,
 )
 
@@ -29,7 +30,7 @@ returns c =
     let side = c.portal_side-side in
     rank_is c.args.st.now c.args.p side.ensures c.portal_sector.ensures
     (c.border_rank-first.ensures.0 ∙ ap (λ (i : ℕ). cell_rank (border_cell side.result i)) c.portal_run-run.ensures.begins)
-    (c.border_rank-last.ensures.0 ∙ ap (λ (i : ℕ). cell_rank (border_cell side.result i)) c.portal_run-run.ensures.ends) c.side_number.ensures
+    (c.border_rank-last.ensures.0 ∙ ap (λ (i : ℕ). cell_rank (border_cell side.result i)) c.portal_run-run.ensures.ends) (cast_is side.result)
 
 pub overflow_mul-result : goal.overflow_mul-result
 overflow_mul-result c = omega (arith, sector c)

@@ -6,8 +6,8 @@ use Rattle.portal.proofs.marks.side_mark.Goals as goal
 pub cells_mark-requires : goal.cells_mark-requires
 cells_mark-requires c = search (rules, beyond_small)
 
-pub returns-then-has_beyond : goal.returns-then-has_beyond
-returns-then-has_beyond c = search (rules, mark_beyond)
+pub returns-in-Some : goal.returns-in-Some
+returns-in-Some c = search (rules, mark_beyond)
 
-pub returns : goal.returns
-returns c = search (rules, mark_none)
+pub returns-in-None : goal.returns-in-None
+returns-in-None c = search (rules, mark_none)

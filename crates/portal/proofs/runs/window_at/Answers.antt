@@ -3,17 +3,11 @@ use borrow.Author.Rules.{rules}
 use Rattle.portal.proofs.AllMarks.{passing}
 use Rattle.portal.proofs.runs.window_at.Goals as goal
 
-pub loop-k-init : goal.loop-k-init
-loop-k-init c = search (rules, passing)
+pub loop-passed-init : goal.loop-passed-init
+loop-passed-init c = search (rules, passing)
 
-pub first_run-s-requires : goal.first_run-s-requires
-first_run-s-requires c = search (rules, passing)
+pub first_run-left-requires : goal.first_run-left-requires
+first_run-left-requires c = search (rules, passing)
 
-pub loop-k-preserved : goal.loop-k-preserved
-loop-k-preserved c = search (rules, passing)
-
-pub first_run-s-requires-2 : goal.first_run-s-requires-2
-first_run-s-requires-2 c = search (rules, passing)
-
-pub returns : goal.returns
-returns c = search (rules, passing)
+pub first_run-requires : goal.first_run-requires
+first_run-requires c = search (rules, passing)

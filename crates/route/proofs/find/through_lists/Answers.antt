@@ -1,4 +1,5 @@
 -- `through_lists` chooses a pair and takes the route over it.
+use borrow.Author.Rules.{rules}
 use native.Mathlib.Omega.{arith}
 use Prim.Native.Nat.{ℕ, ◌*◌, ◌/◌, ◌%◌, ◌<◌}
 use mathlib.Core.Path.{◌≡◌, sym, ap, subst, ◌∙◌}
@@ -30,11 +31,11 @@ same_runs p q e f k = rw (e, f, k)
 same_route : (h : Hall) (goal p e i j : ℕ) {a b x y : List ℕ} → a ≡ b → x ≡ y → pair_route h goal p e (get_or a i 0) (get_or x j 0) ≡ pair_route h goal p e (get_or b i 0) (get_or y j 0)
 same_route h goal p e i j f k = rw (f, k)
 
-legs_are : (c : After-choose_pair-k) → c.portal_moves.new.near ≡ portal_moves (decode c.args.st.now) c.args.source
-legs_are c = c.portal_moves.ensures
+legs_are : (c : After-choose_pair-k) → c.portal_moves-legs.result ≡ portal_moves (decode c.args.st.now) c.args.source
+legs_are c = c.portal_moves-legs.ensures
 
-lasts_are : (c : After-choose_pair-k) → c.portal_moves-2.new.near ≡ portal_moves (decode c.args.st.now) c.args.goal
-lasts_are c = c.portal_moves-2.ensures
+lasts_are : (c : After-choose_pair-k) → c.portal_moves-lasts.result ≡ portal_moves (decode c.args.st.now) c.args.goal
+lasts_are c = c.portal_moves-lasts.ensures
 
 foremost : (c : After-choose_pair-k) → Foremost (run_at (decode c.args.st.now) c.args.source c.args.goal) unlinked sector_pairs c.choose_pair-k.result
 foremost c =
@@ -49,8 +50,8 @@ chosen c l = chosen_some (decode c.args.st.now) c.args.source c.args.goal (fits_
 found_is : (c : After-choose_pair-k) → c.choose_pair-k.result < sector_pairs → let k = c.choose_pair-k.result in
     through_portals (decode c.args.st.now) (portal_graph (decode c.args.st.now)) c.args.source c.args.goal
     ≡ pair_route (decode c.args.st.now) c.args.goal (place_portal (sector_of c.args.source) (k / sector_portals)) (place_portal (sector_of c.args.goal) (k % sector_portals))
-    (get_or c.portal_moves.new.near (k / sector_portals) 0)
-    (get_or c.portal_moves-2.new.near (k % sector_portals) 0)
+    (get_or c.portal_moves-legs.result (k / sector_portals) 0)
+    (get_or c.portal_moves-lasts.result (k % sector_portals) 0)
 found_is c l =
     let c = c in
     let k = c.choose_pair-k.result in
@@ -65,8 +66,8 @@ choose_pair-k-requires c =
         searched_of (linked after_fill_edges),
         omega (arith, c.requires.1),
         omega (arith, c.requires.2),
-        c.portal_moves.auto.near,
-        c.portal_moves-2.auto.near,
+        search rules,
+        search rules,
       );
       both_ways = searched_both_ways (linked after_fill_edges);
     }
