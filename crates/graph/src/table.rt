@@ -1,13 +1,15 @@
-// The filled list of weights, with what a search needs to know of it.
+// The weights of a hall's edges, with what a search needs to know of them.
 ghost use Rattle.std.specs.Prelude.{◌≡◌, ℕ, ◌≤◌, ◌<◌, length, get_or};
 ghost use Rattle.laws.specs.Graph.{Sound, BothWays};
 ghost use Rattle.model.specs.Sectors.{sectors};
 ghost use Rattle.model.specs.Portals.{arc_count};
-ghost use Rattle.graph.specs.EdgeTable.{table_graph};
+ghost use Rattle.model.specs.Store.{decode};
+ghost use Rattle.graph.specs.EdgeTable.{Opened, edge_table, table_graph};
 
+use crate::edges::fill_edges;
 use model::Measures;
 
-// The weights of a hall's edges by arc number, 0 where there is no edge: they join numbers of the hall, weigh no more than 256 moves, and lead both ways.
+// The weights of the edges of a hall of these measures by arc number, 0 where there is no edge: edges join numbers of the hall, weigh no more than 256 moves, and lead both ways.
 #[derive(Clone, Copy)]
 pub struct Edges<'a> {
     pub measures: Measures,
@@ -18,4 +20,19 @@ pub struct Edges<'a> {
     ghost sound: { Sound (table_graph measures weights.now) },
     ghost light: { (e : ℕ) → e < arc_count measures → get_or weights.now e 0 ≤ 1048576 },
     ghost both_ways: { ∥ BothWays (table_graph measures weights.now) ∥₁ },
+}
+
+impl<'a> Edges<'a> {
+    // The edges of the portal graph of a store, in a lent list.
+    pub fn of_store(st: &[u8], m: Measures, table: &'a mut [u32]) -> Edges<'a>
+        requires { Opened m st.now × (length table.old ≡ arc_count m) }
+        ensures measures { result.measures ≡ m }
+        ensures weights { result.weights.now ≡ edge_table (decode st.now) }
+    {
+        fill_edges(st, m, table);
+        Edges {
+            measures: m,
+            weights: table,
+        }
+    }
 }
