@@ -11,6 +11,7 @@ use graph::portals::HALL_PORTALS;
 use graph::table::Edges;
 use moves::spread::APART;
 use search::keys::settle;
+use search::queue::Queue;
 
 // The end with number v begins with the moves from there to the goal, if that is less, and then waits.
 fn offer_end(v: usize, last: u8, keys: &mut [u32], wait: &mut [u8])
@@ -45,7 +46,9 @@ pub fn keys_to_goal(edges: Edges, q: usize, lasts: &[u8], keys: &mut [u32])
 {
     let mut room = [0u8; HALL_PORTALS];
     let wait = &mut room[..keys.len()];
+    let mut queue = Queue::new();
     keys.fill(u32::MAX);
     offer_ends(q, lasts, keys, wait);
-    settle(edges, keys, wait);
+    queue.refill(keys.len(), wait);
+    settle(edges, keys, wait, &mut queue);
 }

@@ -1,6 +1,7 @@
 // The least keys of paths to one portal: a search that serves waiting portals in the order in which they came to wait.
 // Who waits has 1 in a list of numbers, since the laws of the search (`awaited`, `Lined`) speak of such a list.
-ghost use Rattle.std.specs.Prelude.{◌≡◌, false, ℕ, ◌+◌, ◌*◌, ◌/◌, ◌≤◌, ◌<◌, length, get_or};
+// Keys, waits and queue stay three parameters: as fields of one struct each method would have to say that the two lent lists stay the same.
+ghost use Rattle.std.specs.Prelude.{◌≡◌, ◌↔◌, false, IsTrue, ℕ, ◌+◌, ◌*◌, ◌/◌, ◌≤◌, ◌<◌, length, get_or};
 ghost use Rattle.laws.specs.Relaxing.{relaxed};
 ghost use Rattle.laws.specs.Waiting.{awaited, work};
 ghost use Rattle.laws.specs.Extending.{Keeps};
@@ -44,7 +45,7 @@ fn offer(edges: Edges, u: usize, a: usize, keys: &mut [u32], wait: &mut [u8], qu
 
 // Whether an edge of weight w from a portal of this key offers less than the old key.
 fn gains(key: u32, w: u32, old: u32) -> bool
-    ensures { result ≡ false → 0 < w → old ≤ key + w }
+    ensures { IsTrue result ↔ (0 < w) × (key + w < old) }
 {
     w != 0 && u64::from(key) + u64::from(w) < u64::from(old)
 }
@@ -117,15 +118,16 @@ fn drain(edges: Edges, keys: &mut [u32], wait: &mut [u8], queue: &mut Queue)
     }
 }
 
-// All that wait are served, and then what waits again, until no number waits.
-pub fn settle(edges: Edges, keys: &mut [u32], wait: &mut [u8])
-    requires { Searched edges (length keys.old) (length wait.old) }
+// The queue is served, and then what waits again, until no number waits.
+pub fn settle(edges: Edges, keys: &mut [u32], wait: &mut [u8], queue: &mut Queue)
+    requires lists { Searched edges (length keys.old) (length wait.old) }
+    requires lined { Lined (length keys.old) wait.old queue.old.numbers queue.old.end × (queue.old.head ≡ 0) }
     ensures kept { Keeps (graph_of edges.entry) keys.old wait.old keys.new wait.new }
     ensures over { (v : ℕ) → v < length keys.old → get_or wait.new v 0 ≡ 0 }
 {
-    let mut queue = Queue::new();
-    while queue.refill(keys.len(), wait) {
-        drain(edges, keys, wait, &mut queue);
+    while !queue.is_empty() {
+        drain(edges, keys, wait, queue);
+        queue.refill(keys.len(), wait);
     }
 }
 
@@ -135,8 +137,10 @@ pub fn keys_to(edges: Edges, e: usize, keys: &mut [u32])
     ensures { keys.new ≡ keys_to (graph_of edges.entry) e }
 {
     let mut wait = [0u8; HALL_PORTALS];
+    let mut queue = Queue::new();
     keys.fill(u32::MAX);
     keys[e] = 0;
     wait[e] = 1;
-    settle(edges, keys, &mut wait);
+    queue.push(e);
+    settle(edges, keys, &mut wait, &mut queue);
 }

@@ -2,4 +2,4 @@
 #![tactic(auto)]
 
 pub mod keys;
-mod queue;
+pub mod queue;

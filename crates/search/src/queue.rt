@@ -12,14 +12,15 @@ pub struct Queue {
     numbers: [u16; QUEUE_ROOM],
     head: usize,
     end: usize,
-    ghost long: { length numbers ≡ QUEUE_ROOM },
     ghost ordered: { head ≤ end },
     ghost room: { end ≤ QUEUE_ROOM },
 }
 
 impl Queue {
     // No number.
-    pub fn new() -> Queue {
+    pub fn new() -> Queue
+        ensures { (result.head ≡ 0) × (result.end ≡ 0) × (length result.numbers ≡ QUEUE_ROOM) }
+    {
         Queue {
             numbers: [0; QUEUE_ROOM],
             head: 0,
@@ -40,11 +41,17 @@ impl Queue {
         self.end += 1;
     }
 
+    pub fn is_empty(&self) -> bool
+        ensures { IsTrue result ↔ self.now.end ≤ self.now.head }
+    {
+        self.end <= self.head
+    }
+
     // The next number leaves the queue.
     pub fn pop(&mut self) -> Option<usize>
         ensures { MatchOption result (self.old.end ≤ self.old.head) (λ u. (u ≡ get_or self.old.numbers self.old.head 0) × (self.new.head ≡ self.old.head + 1)) }
     {
-        if self.end <= self.head {
+        if self.is_empty() {
             return None;
         }
         let u = self.numbers[self.head];
@@ -52,19 +59,19 @@ impl Queue {
         Some(usize::from(u))
     }
 
-    // The numbers below n that wait make up the queue. Says whether there are any.
-    pub fn refill(&mut self, n: usize, wait: &[u8]) -> bool
+    // The numbers below n that wait make up the queue.
+    pub fn refill(&mut self, n: usize, wait: &[u8])
         requires { (n ≤ QUEUE_ROOM) × (n ≤ length wait.now) }
-        ensures lined { Lined n wait.now self.new.numbers self.new.end × (self.new.head ≡ 0) }
-        ensures some { IsTrue result ↔ 0 < self.new.end }
+        ensures { Lined n wait.now self.new.numbers self.new.end × (self.new.head ≡ 0) }
     {
-        self.head = 0;
-        self.end = 0;
+        let mut end = 0;
         for u in 0..n {
             if wait[u] != 0 {
-                self.push(u);
+                self.numbers[end] = u as u16;
+                end += 1;
             }
         }
-        0 < self.end
+        self.head = 0;
+        self.end = end;
     }
 }

@@ -1,5 +1,6 @@
--- `settle` ends where no number waits. The loop's invariant: what waited is kept.
+-- `settle` ends where the queue of those that wait is empty. The loop's invariant: what waited is kept, and the queue is that of those that wait.
 use Rattle.search.proofs.keys.settle.Goals as goal
 
-pub loop-queue-preserved : goal.loop-queue-preserved
-loop-queue-preserved c = λ g o ext s top w. c.drain.ensures.kept g o ext s top (c.loop-queue.invariant g o ext s top w)
+pub loop-edges-preserved : goal.loop-edges-preserved
+loop-edges-preserved c =
+    (c.refill.ensures.0, c.refill.ensures.1, λ g o ext s top w. c.drain.ensures.kept g o ext s top (c.loop-edges.invariant.2 g o ext s top w))
