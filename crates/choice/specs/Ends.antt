@@ -58,7 +58,7 @@ pub record Nearest (g : Graph) (q : ℕ) (lasts d : List ℕ) : Type 0 where
       → (k : ℕ) × (k < sector_portals) × (get_or lasts k 0 < apart) × (get_or (keys_to g (q + k)) v 0 + key_step * (get_or lasts k 0 + 1) ≤ get_or d v 0)
 
 -- THE KEYS FROM THE GOAL, where every arc leads both ways and the weights fit
-module _ {g : Graph} (q : ℕ) (lasts d : List ℕ) (sound : Sound g) (back : BothWays g)
+module _ {g : Graph} (q : ℕ) (lasts d : List ℕ) (sound : Sound g) (back : ∥ BothWays g ∥₁)
     (few : g.nodes ≤ hall_portals) (light : (e : ℕ) → e < g.arcs → g.weight e ≤ 1048576)
     (inside : q + sector_portals ≤ g.nodes) (numbers : length d ≡ g.nodes) (ok : Settled (ends_graph g q lasts) g.nodes unlinked (d ++ 0 ∷ [])) where
   certified : (k : ℕ) → k < sector_portals → Settled g (q + k) unlinked (keys_to g (q + k))

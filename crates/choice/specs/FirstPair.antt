@@ -21,7 +21,7 @@ unfolding run_for
 same_leg key leg other last l k = rw (lt-ltb leg apart l, lt-ltb other apart k)
 
 -- ---- the two choices
-module _ {g : Graph} (sound : Sound g) (back : BothWays g) (p q : ℕ) (in_p : p + sector_portals ≤ g.nodes) (in_q : q + sector_portals ≤ g.nodes)
+module _ {g : Graph} (sound : Sound g) (back : ∥ BothWays g ∥₁) (p q : ℕ) (in_p : p + sector_portals ≤ g.nodes) (in_q : q + sector_portals ≤ g.nodes)
     (legs lasts zeros : List ℕ) (zero_at : (c : ℕ) → c < sector_portals → get_or zeros c 0 ≡ 0) where
   -- the key and the run from the start at place c to the end at place d
   abbrev key_for : ℕ → ℕ → ℕ
@@ -76,39 +76,46 @@ module _ {g : Graph} (sound : Sound g) (back : BothWays g) (p q : ℕ) (in_p : p
             let key : get_or tos (q + d) 0 ≡ key_for c d = ap (λ (k : List ℕ). get_or k (q + d) 0) to_start ∙ keys_back sound back (omega arith) (omega arith) in
             rw key (same_leg (key_for c d) (get_or zeros d 0) (get_or legs c 0) (get_or lasts d 0) (omega (arith, zero_at d l)) (start_some c some starts_low).0)
 
+        -- some end is joined to it
+        pub some_end : {d : ℕ} → Foremost (place_run tos q zeros lasts) unlinked sector_portals d → d < sector_portals
+        some_end {d} end = go (below_or d sector_portals)
+          where
+            go : (d < sector_portals) ⊎ (sector_portals ≤ d) → d < sector_portals
+            go (inl k) = k
+            go (inr past) = let x = (start_some c some starts_low).1 in absurd (omega (arith, x.2, none_foremost end past x.0 x.1, ends_are x.0 x.1))
+
         -- THE PAIR
         pub first_pair : {d : ℕ} → Foremost (place_run tos q zeros lasts) unlinked sector_portals d → Foremost runs unlinked sector_pairs (c * sector_portals + d)
-        first_pair {d} end = go (below_or d sector_portals)
+        first_pair {d} end = foremost_some (omega (arith, chosen, ends_are d k, (foremost_is end k).0)) (record {
+          low = omega (arith, k);
+          before = λ j l. omega (arith, chosen, earlier j (omega (arith, k)) l (below_or (runs j) unlinked));
+          least = λ j l. omega (arith, chosen, most j l (below_or (runs j) unlinked));
+        })
           where
-            go : (d < sector_portals) ⊎ (sector_portals ≤ d) → Foremost runs unlinked sector_pairs (c * sector_portals + d)
-            go (inr past) = let x = (start_some c some starts_low).1 in absurd (omega (arith, x.2, none_foremost end past x.0 x.1, ends_are x.0 x.1))
-            go (inl k) = foremost_some (omega (arith, chosen, ends_are d k, (foremost_is end k).0)) (record {
-              low = omega arith;
-              before = λ j l. omega (arith, chosen, earlier j (omega arith) l (below_or (runs j) unlinked));
-              least = λ j l. omega (arith, chosen, most j l (below_or (runs j) unlinked));
-            })
+            k : d < sector_portals
+            k = some_end end
+
+            ends_first : FirstLeast (place_run tos q zeros lasts) sector_portals d
+            ends_first = (foremost_is end k).1
+
+            chosen : runs (c * sector_portals + d) ≡ run_to c d
+            chosen =
+                let a : (c * sector_portals + d) / sector_portals ≡ c = omega (arith, k) in
+                let b : (c * sector_portals + d) % sector_portals ≡ d = omega (arith, k) in
+                rw (a, b)
+
+            -- its run is the start's cost without the one move more
+            cost_is : run_to c d + 1 ≤ start_cost c
+            cost_is = let x = (start_some c some starts_low).1 in omega (arith, x.3, ends_first.least x.0 x.1, ends_are x.0 x.1, ends_are d k)
+
+            most : (j : ℕ) → j < sector_pairs → (runs j < unlinked) ⊎ (unlinked ≤ runs j) → run_to c d ≤ runs j
+            most j l (inl b) = omega (arith, cost_is, starts_first.least (j / sector_portals) (omega arith), (start_most (j / sector_portals) (j % sector_portals) (omega arith) (omega arith) b).1)
+            most j l (inr b) = omega (arith, (foremost_is end k).0, ends_are d k)
+
+            earlier : (j : ℕ) → j < sector_pairs → j < c * sector_portals + d → (runs j < unlinked) ⊎ (unlinked ≤ runs j) → run_to c d < runs j
+            earlier j l i (inr b) = omega (arith, (foremost_is end k).0, ends_are d k)
+            earlier j l i (inl b) = at (ℕ_discrete (j / sector_portals) c)
               where
-                ends_first : FirstLeast (place_run tos q zeros lasts) sector_portals d
-                ends_first = (foremost_is end k).1
-
-                chosen : runs (c * sector_portals + d) ≡ run_to c d
-                chosen =
-                    let a : (c * sector_portals + d) / sector_portals ≡ c = omega arith in
-                    let b : (c * sector_portals + d) % sector_portals ≡ d = omega arith in
-                    rw (a, b)
-
-                -- its run is the start's cost without the one move more
-                cost_is : run_to c d + 1 ≤ start_cost c
-                cost_is = let x = (start_some c some starts_low).1 in omega (arith, x.3, ends_first.least x.0 x.1, ends_are x.0 x.1, ends_are d k)
-
-                most : (j : ℕ) → j < sector_pairs → (runs j < unlinked) ⊎ (unlinked ≤ runs j) → run_to c d ≤ runs j
-                most j l (inl b) = omega (arith, cost_is, starts_first.least (j / sector_portals) (omega arith), (start_most (j / sector_portals) (j % sector_portals) (omega arith) (omega arith) b).1)
-                most j l (inr b) = omega (arith, (foremost_is end k).0, ends_are d k)
-
-                earlier : (j : ℕ) → j < sector_pairs → j < c * sector_portals + d → (runs j < unlinked) ⊎ (unlinked ≤ runs j) → run_to c d < runs j
-                earlier j l i (inr b) = omega (arith, (foremost_is end k).0, ends_are d k)
-                earlier j l i (inl b) = at (ℕ_discrete (j / sector_portals) c)
-                  where
-                    at : Dec (j / sector_portals ≡ c) → run_to c d < run_to (j / sector_portals) (j % sector_portals)
-                    at (no e) = omega (arith, cost_is, starts_first.before (j / sector_portals) (omega arith), (start_most (j / sector_portals) (j % sector_portals) (omega arith) (omega arith) b).1)
-                    at (yes e) = rw e (omega (arith, ends_first.before (j % sector_portals) (omega arith), ends_are (j % sector_portals) (omega arith), ends_are d k))
+                at : Dec (j / sector_portals ≡ c) → run_to c d < run_to (j / sector_portals) (j % sector_portals)
+                at (no e) = omega (arith, cost_is, starts_first.before (j / sector_portals) (omega (arith, k)), (start_most (j / sector_portals) (j % sector_portals) (omega arith) (omega arith) b).1)
+                at (yes e) = rw e (omega (arith, ends_first.before (j % sector_portals) (omega arith), ends_are (j % sector_portals) (omega arith), ends_are d k))

@@ -3,3 +3,4 @@
 
 mod ends;
 pub mod pair;
+pub mod places;

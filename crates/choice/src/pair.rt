@@ -1,81 +1,69 @@
 // The pair of a start and an end portal with the least run; of equals, the one that comes first start by start.
-ghost use Rattle.std.specs.Prelude.{◌≡◌, ◌+◌, ◌*◌, ◌≤◌, length};
-ghost use Rattle.laws.specs.Graph.{BothWays};
+// In a list of keys u32::MAX stands for no path, since the laws of the search have it as a number there.
+ghost use Rattle.std.specs.Prelude.{◌≡◌, ◌+◌, ◌*◌, ◌≤◌, ◌<◌, IfSome, MatchOption, length};
+ghost use Rattle.std.specs.Option.{unwrap_or};
 ghost use Rattle.laws.specs.FirstLeast.{Foremost};
 ghost use Rattle.model.specs.Portals.{sector_portals, hall_portals, portal_count};
 ghost use Rattle.model.specs.LeastPath.{unlinked};
-ghost use Rattle.graph.specs.EdgeTable.{table_graph};
-ghost use Rattle.search.specs.Searching.{Searched};
+ghost use Rattle.graph.specs.Edges.{graph_of};
 ghost use Rattle.choice.specs.Choosing.{run_for, sector_pairs, pair_run};
 ghost use Rattle.choice.specs.FirstPair.{place_run};
 
 use crate::ends::keys_to_goal;
-use graph::edges::{KEY_STEP, UNLINKED};
+use crate::places::Pair;
+use graph::edges::KEY_STEP;
 use graph::portals::SECTOR_PORTALS;
-use model::Measures;
+use graph::table::Edges;
 use moves::spread::APART;
 use search::keys::keys_to;
 
-// How many pairs there are of a place in the sector of the source and one in that of the goal.
-pub const PAIRS: usize = SECTOR_PORTALS * SECTOR_PORTALS;
-
-// The run of a pair by the key of its path, its leg and the moves from its end to the goal; UNLINKED where it is no pair.
-fn run_of(key: u32, leg: u8, last: u8) -> u32
-    ensures { result ≡ run_for key leg last }
+// The run of a pair by the key of its path, its leg and the moves from its end to the goal, if it is a pair.
+fn run_of(key: u32, leg: u8, last: u8) -> Option<u32>
+    ensures { unwrap_or result unlinked ≡ run_for key leg last }
 {
-    if leg == APART {
-        return UNLINKED;
+    if leg == APART || last == APART || key == u32::MAX {
+        return None;
     }
-    if last == APART {
-        return UNLINKED;
-    }
-    if key == UNLINKED {
-        return UNLINKED;
-    }
-    key / KEY_STEP + (last as u32)
+    Some(key / KEY_STEP + u32::from(last))
 }
 
-// The first of twenty places with the least run, or 20 where there is none: keys from number p on, legs and last moves by place.
-fn first_place(keys: &[u32], p: usize, legs: &[u8], lasts: &[u8]) -> usize
+// The first of twenty places with the least run: keys from number p on, legs and last moves by place.
+fn first_place(keys: &[u32], p: usize, legs: &[u8], lasts: &[u8]) -> Option<usize>
     requires { (p + sector_portals ≤ length keys.now) × (length keys.now ≤ hall_portals) × (length legs.now ≡ sector_portals) × (length lasts.now ≡ sector_portals) }
-    ensures { Foremost (place_run keys.now p legs.now lasts.now) unlinked sector_portals result }
+    ensures first { Foremost (place_run keys.now p legs.now lasts.now) unlinked sector_portals (unwrap_or result sector_portals) }
+    ensures low { IfSome result (λ c. c < sector_portals) }
 {
-    let mut best = SECTOR_PORTALS;
-    let mut least = UNLINKED;
-    let mut c = 0;
-    while c < SECTOR_PORTALS {
-        let run = run_of(keys[p + c], legs[c], lasts[c]);
-        if run < least {
-            least = run;
-            best = c;
+    let mut best = None;
+    let mut least = u32::MAX;
+    for c in 0..SECTOR_PORTALS {
+        if let Some(run) = run_of(keys[p + c], legs[c], lasts[c]) {
+            if run < least {
+                least = run;
+                best = Some(c);
+            }
         }
-        c += 1;
     }
     best
 }
 
-// The number of the first pair of the least run, start by start, or 400 where there is none: from the sector whose first number is p to the one whose first number is q.
+// The first pair of the least run, start by start: from the sector whose first number is p to the one whose first number is q.
 // The start is the first of least cost to the goal over any end, and the end is the first of least run from it. Zeros stand for last moves where the keys count them, and for legs where the start is chosen.
 pub fn choose_pair(
-    m: Measures,
-    table: &[u32],
+    edges: Edges,
     p: usize,
     q: usize,
     legs: &[u8],
     lasts: &[u8],
     keys: &mut [u32],
-) -> usize
-    requires searched { Searched m table.now (length keys.old) hall_portals × (p + sector_portals ≤ portal_count m) × (q + sector_portals ≤ portal_count m) × (length legs.now ≡ sector_portals) × (length lasts.now ≡ sector_portals) }
-    requires both_ways { BothWays (table_graph m table.now) }
-    ensures { Foremost (pair_run (table_graph m table.now) legs.now lasts.now p q) unlinked sector_pairs result }
+) -> Option<Pair>
+    requires lists { (length keys.old ≡ portal_count edges.measures) × (length legs.now ≡ sector_portals) × (length lasts.now ≡ sector_portals) }
+    requires inside { (p + sector_portals ≤ portal_count edges.measures) × (q + sector_portals ≤ portal_count edges.measures) }
+    ensures { let first = Foremost (pair_run (graph_of edges.entry) legs.now lasts.now p q) unlinked sector_pairs in MatchOption result (first sector_pairs) (λ pair. first (pair.start * sector_portals + pair.end)) }
 {
-    let zeros: [u8; SECTOR_PORTALS] = [0; SECTOR_PORTALS];
-    keys_to_goal(m, table, q, lasts, keys);
-    let c = first_place(keys, p, legs, &zeros);
-    if SECTOR_PORTALS <= c {
-        return PAIRS;
-    }
-    keys_to(m, table, p + c, keys);
-    let d = first_place(keys, q, &zeros, lasts);
-    c * SECTOR_PORTALS + d
+    let zeros = [0u8; SECTOR_PORTALS];
+    keys_to_goal(edges, q, lasts, keys);
+    let start = first_place(keys, p, legs, &zeros)?;
+    keys_to(edges, p + start, keys);
+    let end = first_place(keys, q, &zeros, lasts)?;
+    Some(Pair { start, end })
 }

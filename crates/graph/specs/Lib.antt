@@ -2,3 +2,4 @@ pub mod EdgeTable
 pub mod Reading
 pub mod Weights
 pub mod Near
+pub mod Edges

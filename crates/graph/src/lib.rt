@@ -4,3 +4,4 @@
 pub mod edges;
 pub mod near;
 pub mod portals;
+pub mod table;

@@ -1,11 +1,12 @@
 -- What the walk along a least path is given, and where its arcs lead.
-use Rattle.std.specs.Prelude.{ℕ, ◌+◌, ◌-◌, ◌*◌, ◌≤◌, ◌<◌, ◌≡◌, ◌⊎◌, Bool, true, false, List, ◌++◌, ltb, get_or, set}
+use Rattle.std.specs.Prelude.{ℕ, ◌+◌, ◌-◌, ◌*◌, ◌≤◌, ◌<◌, ◌≡◌, refl, Bool, true, false, Option, None, Some, IsSome, IfSome, List, ◌++◌, ltb, get_or, set}
+use Rattle.std.specs.Option.{unwrap_or}
 use native.Mathlib.Omega.{arith}
 use Rattle.std.proofs.Math.Path.{sym, subst}
 use Rattle.std.proofs.Common.{ap, ◌∙◌, length-append, length-drop, eq-eqb, ne_eqb}
 use Rattle.std.proofs.lemmas.Bool.{false≢true}
 use Rattle.std.proofs.Math.ListN.{length, drop}
-use Rattle.laws.specs.Graph.{Graph, Sound, BothWays, Settled, turned}
+use Rattle.laws.specs.Graph.{Graph, Settled, turned}
 use Rattle.laws.specs.FirstPath.{better, closer, next, path}
 use Rattle.laws.specs.Keys.{few_edges}
 use Rattle.laws.specs.Tracing.{next_skip, next_take, next_same, Tracing, tracing_none, tracing_node, tracing_room, tracing_over, tracing_more}
@@ -14,62 +15,43 @@ use Rattle.model.specs.declared.Side.{Side}
 use Rattle.model.specs.Cells.{side_number}
 use Rattle.model.specs.Windows.{border_cell, first_place, last_place}
 use Rattle.model.specs.Sectors.{sector_cells}
-use Rattle.model.specs.Portals.{sector_portals, hall_portals, portal_count, arc_count, portal_sector, portal_side, portal_window, arc_tail, arc_place, portal_mark, is_portal, head_of, key, portal_graph}
+use Rattle.model.specs.Portals.{sector_portals, portal_count, arc_count, portal_sector, portal_side, portal_window, arc_tail, arc_place, portal_mark, is_portal, head_of, portal_graph}
 use Rattle.model.specs.LeastPath.{cell_rank, node_rank, unlinked, keys_to, least_path}
-use Rattle.model.specs.PortalEdges.{weight_low, head_portal, portal_sound}
+use Rattle.model.specs.PortalEdges.{head_portal, portal_node, portal_sound}
 use Rattle.model.specs.LeastPathFirst.{portal_keyed, keys_settled}
 use Rattle.model.specs.Store.{decode}
-use Rattle.graph.specs.EdgeTable.{Opened, bare, edge_table, table_graph, length_table, table_graph_lem, table_sound, table_both_ways}
-use Rattle.graph.specs.Reading.{measures_are, accepted_of, fits_of}
-use Rattle.search.specs.Searching.{Searched}
+use Rattle.graph.specs.EdgeTable.{Opened, bare, edge_table}
+use Rattle.graph.specs.Reading.{fits_of}
+use Rattle.graph.specs.Edges.{graph_of, filled_graph}
+use Rattle.graph.specs.declared.table.Edges.{Edges}
 
--- a store that passes the check, its measures, its filled table, and room for a key to each number
-pub record Linked (m : Measures) (st table : List ℕ) (keys : ℕ) : Type 0 where
+-- a store that passes the check, its measures, its edges, and room for a key to each number
+pub record Linked (m : Measures) (st : List ℕ) (edges : Edges) (keys : ℕ) : Type 0 where
   pub opened : Opened m st
-  pub filled : table ≡ edge_table (decode st)
-  pub numbers : keys ≡ portal_count m
+  pub measured : edges.measures ≡ m
+  pub filled : edges.weights.now ≡ edge_table (decode st)
+  pub numbers : keys ≡ portal_count edges.measures
 
-module _ {m : Measures} {st table : List ℕ} {keys : ℕ} (k : Linked m st table keys) where
-  -- the table stands for the portal graph
-  pub graph_is : table_graph m table ≡ portal_graph (decode st)
-  graph_is = ap (λ (n : Measures). table_graph n table) (sym (measures_are k.opened)) ∙ ap (table_graph (decode st).measures) k.filled ∙ table_graph_lem (decode st)
+module _ {m : Measures} {st : List ℕ} {edges : Edges} {keys : ℕ} (k : Linked m st edges keys) where
+  -- the edges are those of the portal graph
+  pub graph_is : graph_of edges ≡ portal_graph (decode st)
+  graph_is = filled_graph (rw (sym k.measured) at k.opened) k.filled
 
-  -- so it can be searched
-  pub searched_of : Searched m table keys hall_portals
-  searched_of =
-      let few = accepted_of k.opened in
-      record {
-        few = few.few_sectors;
-        few_rows = few.few_rows;
-        long = ap length k.filled ∙ length_table (decode st) ∙ ap (λ (n : Measures). arc_count n) (measures_are k.opened);
-        graph = record {
-          numbers = k.numbers;
-          room = omega (arith, few.few_sectors);
-          sound = subst (λ (g : Graph). Sound g) (ap (λ (n : Measures). table_graph n (edge_table (decode st))) (measures_are k.opened) ∙ ap (table_graph m) (sym k.filled))
-              (table_sound (fits_of k.opened));
-          light = λ e l. omega (arith, low e l);
-        };
-      }
-    where
-      low : (e : ℕ) → e < arc_count m → get_or table e 0 ≤ key 254
-      low = subst (λ (g : Graph). (e : ℕ) → e < g.arcs → g.weight e ≤ key 254) (sym graph_is) (weight_low (decode st) (fits_of k.opened))
-
-  pub searched_both_ways : BothWays (table_graph m table)
-  searched_both_ways =
-      subst (λ (g : Graph). BothWays g) (ap (λ (n : Measures). table_graph n (edge_table (decode st))) (measures_are k.opened) ∙ ap (table_graph m) (sym k.filled))
-      (table_both_ways (fits_of k.opened))
+  -- whose numbers are below the count
+  pub portal_inside : (v : ℕ) → is_portal (decode st) v ≡ true → v < portal_count edges.measures
+  portal_inside v e = omega (arith, portal_node (decode st) (fits_of k.opened) v e, ap (λ (g : Graph). g.nodes) graph_is)
 
   -- its arcs lead to portals
-  leads : (a : ℕ) → a < arc_count m → 0 < get_or table a 0 → is_portal (decode st) (head_of (bare m) (arc_tail a) (arc_place a)) ≡ true
+  leads : (a : ℕ) → a < arc_count edges.measures → 0 < get_or edges.weights.now a 0 → is_portal (decode st) (head_of (bare edges.measures) (arc_tail a) (arc_place a)) ≡ true
   leads = subst (λ (g : Graph). (a : ℕ) → a < g.arcs → 0 < g.weight a → is_portal (decode st) (g.head a) ≡ true) (sym graph_is) (head_portal (decode st) (fits_of k.opened))
 
-  pub leads_to : (u a v : ℕ) → u ≡ arc_tail a → v ≡ head_of (bare m) u (arc_place a) → a < arc_count m → 0 < get_or table a 0 → is_portal (decode st) v ≡ true
-  leads_to u a v e f l p = ap (is_portal (decode st)) (f ∙ ap (λ (x : ℕ). head_of (bare m) x (arc_place a)) e) ∙ leads a l p
+  pub leads_to : (u a v : ℕ) → u ≡ arc_tail a → v ≡ head_of (bare edges.measures) u (arc_place a) → a < arc_count edges.measures → 0 < get_or edges.weights.now a 0 → is_portal (decode st) v ≡ true
+  leads_to u a v e f l p = ap (is_portal (decode st)) (f ∙ ap (λ (x : ℕ). head_of (bare edges.measures) x (arc_place a)) e) ∙ leads a l p
 
 -- ---- the order of portals
--- none yet, or a portal
-abbrev pub Best : Measures → List ℕ → ℕ → Type 0
-Best m st best = (best ≡ portal_count m) ⊎ (is_portal (decode st) best ≡ true)
+-- a portal, or none yet
+abbrev pub Best : List ℕ → Option ℕ → Type 0
+Best st best = IfSome best (λ v. is_portal (decode st) v ≡ true)
 
 -- a rank from its parts
 pub rank_is : (st : List ℕ) (p : ℕ) {side : Side} {s a b k : ℕ} → side ≡ portal_side p → s ≡ portal_sector p → a ≡ cell_rank (border_cell side (first_place (portal_mark (decode st) p) (portal_window p)))
@@ -78,91 +60,96 @@ pub rank_is : (st : List ℕ) (p : ℕ) {side : Side} {s a b k : ℕ} → side �
 unfolding node_rank
 rank_is st p e s f g k = rw (k, s, f, g, e)
 
-module _ (m : Measures) (table : List ℕ) (rank : ℕ → ℕ) (a best : ℕ) where
-  pub better_none : best ≡ portal_count m → true ≡ better (table_graph m table) rank a best
+module _ (g : Graph) (rank : ℕ → ℕ) (a : ℕ) where
+  pub better_none : true ≡ better g rank a g.nodes
   unfolding better
-  better_none e = rw (eq-eqb best (portal_count m) e)
+  better_none = rw (eq-eqb g.nodes g.nodes refl)
 
-  pub better_some : (best ≡ portal_count m → ⊥) → {x y : ℕ} → x ≡ rank a → y ≡ rank best → ltb x y ≡ better (table_graph m table) rank a best
+  pub better_some : (best : ℕ) → best < g.nodes → {x y : ℕ} → x ≡ rank a → y ≡ rank best → ltb x y ≡ better g rank a best
   unfolding better
-  better_some e f g = rw (ne_eqb best (portal_count m) e, f, g)
+  better_some best l e f = rw (ne_eqb best g.nodes (λ z. omega arith), e, f)
 
 -- ---- one arc
 -- arc a from u to v
-module _ (m : Measures) (table : List ℕ) (rank : ℕ → ℕ) (keys : List ℕ) (u a best : ℕ) (from : u ≡ arc_tail a) where
-  pub passes_by : get_or table a 0 ≡ 0 → best ≡ closer (table_graph m table) rank keys u a best
-  passes_by z = next_skip (table_graph m table) rank keys u a best (λ p q r. omega arith)
+module _ (edges : Edges) (rank : ℕ → ℕ) (keys : List ℕ) (u a best : ℕ) (from : u ≡ arc_tail a) where
+  pub passes_by : get_or edges.weights.now a 0 ≡ 0 → best ≡ closer (graph_of edges) rank keys u a best
+  passes_by z = next_skip (graph_of edges) rank keys u a best (λ p q r. omega arith)
 
-  pub too_short : get_or keys u 0 < get_or table a 0 → best ≡ closer (table_graph m table) rank keys u a best
-  too_short l = next_skip (table_graph m table) rank keys u a best (λ p q r. omega arith)
+  pub too_short : get_or keys u 0 < get_or edges.weights.now a 0 → best ≡ closer (graph_of edges) rank keys u a best
+  too_short l = next_skip (graph_of edges) rank keys u a best (λ p q r. omega arith)
 
-  module _ (v : ℕ) (to : v ≡ head_of (bare m) u (arc_place a)) where
-    head_is : v ≡ head_of (bare m) (arc_tail a) (arc_place a)
-    head_is = to ∙ ap (λ (x : ℕ). head_of (bare m) x (arc_place a)) from
+  module _ (v : ℕ) (to : v ≡ head_of (bare edges.measures) u (arc_place a)) where
+    head_is : v ≡ head_of (bare edges.measures) (arc_tail a) (arc_place a)
+    head_is = to ∙ ap (λ (x : ℕ). head_of (bare edges.measures) x (arc_place a)) from
 
-    pub not_exact : (get_or keys u 0 ≡ get_or keys v 0 + get_or table a 0 → ⊥) → best ≡ closer (table_graph m table) rank keys u a best
-    not_exact n = next_skip (table_graph m table) rank keys u a best (λ p q r. n (omega (arith, q, ap (λ (x : ℕ). get_or keys x 0) head_is)))
+    pub not_exact : (get_or keys u 0 ≡ get_or keys v 0 + get_or edges.weights.now a 0 → ⊥) → best ≡ closer (graph_of edges) rank keys u a best
+    not_exact n = next_skip (graph_of edges) rank keys u a best (λ p q r. n (omega (arith, q, ap (λ (x : ℕ). get_or keys x 0) head_is)))
 
-    pub not_better : {b : Bool} → b ≡ better (table_graph m table) rank v best → b ≡ false → best ≡ closer (table_graph m table) rank keys u a best
-    not_better e f = next_skip (table_graph m table) rank keys u a best (λ p q r. false≢true (sym f ∙ e ∙ ap (λ (x : ℕ). better (table_graph m table) rank x best) head_is ∙ r))
+    pub not_better : {b : Bool} → b ≡ better (graph_of edges) rank v best → b ≡ false → best ≡ closer (graph_of edges) rank keys u a best
+    not_better e f = next_skip (graph_of edges) rank keys u a best (λ p q r. false≢true (sym f ∙ e ∙ ap (λ (x : ℕ). better (graph_of edges) rank x best) head_is ∙ r))
 
-    pub goes_there : {b : Bool} → 0 < get_or table a 0 → get_or keys u 0 ≡ get_or keys v 0 + get_or table a 0 → b ≡ better (table_graph m table) rank v best → b ≡ true
-        → v ≡ closer (table_graph m table) rank keys u a best
+    pub goes_there : {b : Bool} → 0 < get_or edges.weights.now a 0 → get_or keys u 0 ≡ get_or keys v 0 + get_or edges.weights.now a 0 → b ≡ better (graph_of edges) rank v best → b ≡ true
+        → v ≡ closer (graph_of edges) rank keys u a best
     goes_there p q e f =
         head_is
-        ∙ next_take (table_graph m table) rank keys u a best (sym from) p (q ∙ ap (λ (x : ℕ). get_or keys x 0 + get_or table a 0) head_is)
-        (sym (ap (λ (x : ℕ). better (table_graph m table) rank x best) head_is) ∙ sym e ∙ f)
+        ∙ next_take (graph_of edges) rank keys u a best (sym from) p (q ∙ ap (λ (x : ℕ). get_or keys x 0 + get_or edges.weights.now a 0) head_is)
+        (sym (ap (λ (x : ℕ). better (graph_of edges) rank x best) head_is) ∙ sym e ∙ f)
 
 -- ---- all arcs of u
-module _ (m : Measures) (table : List ℕ) (rank : ℕ → ℕ) (keys : List ℕ) (u : ℕ) where
-  pub next_begins : portal_count m ≡ next (table_graph m table) rank keys u (u * sector_portals)
+module _ (edges : Edges) (rank : ℕ → ℕ) (keys : List ℕ) (u : ℕ) where
+  pub next_begins : portal_count edges.measures ≡ next (graph_of edges) rank keys u (u * sector_portals)
   unfolding next
-  next_begins = let q : 0 + u * sector_portals ≡ u * sector_portals = omega arith in sym (rw q at (next_same (table_graph m table) rank keys u 0 (u * sector_portals) (λ e a b t. omega arith)))
+  next_begins = let q : 0 + u * sector_portals ≡ u * sector_portals = omega arith in sym (rw q at (next_same (graph_of edges) rank keys u 0 (u * sector_portals) (λ e a b t. omega arith)))
 
-  pub next_ends : (a : ℕ) → u * sector_portals + sector_portals ≡ a → a ≤ arc_count m → next (table_graph m table) rank keys u a ≡ next (table_graph m table) rank keys u (arc_count m)
+  pub next_ends : (a : ℕ) → u * sector_portals + sector_portals ≡ a → a ≤ arc_count edges.measures → next (graph_of edges) rank keys u a ≡ next (graph_of edges) rank keys u (arc_count edges.measures)
   next_ends a e l =
-      let q : a + (arc_count m - a) ≡ arc_count m = omega arith in
-      sym (rw q at (next_same (table_graph m table) rank keys u a (arc_count m - a) (λ f x y t. omega arith)))
+      let q : a + (arc_count edges.measures - a) ≡ arc_count edges.measures = omega arith in
+      sym (rw q at (next_same (graph_of edges) rank keys u a (arc_count edges.measures - a) (λ f x y t. omega arith)))
 
 -- ---- along the path
 -- i portals of the path from p are written, and u is the next
-pub record Walked (m : Measures) (st table keys : List ℕ) (p : ℕ) (old new : List ℕ) (u i : ℕ) : Type 0 where
+pub record Walked (edges : Edges) (st keys : List ℕ) (p : ℕ) (old new : List ℕ) (u i : ℕ) : Type 0 where
   pub goal : ℕ
-  pub inside : goal < portal_count m
+  pub inside : goal < portal_count edges.measures
   pub start : get_or keys goal 0 ≡ 0
-  pub few : length (path (table_graph m table) (node_rank (decode st)) keys (get_or keys p 0) p) ≤ portal_count m
-  pub tracing : Tracing (table_graph m table) (node_rank (decode st)) goal p keys old new u i
+  pub few : length (path (graph_of edges) (node_rank (decode st)) keys (get_or keys p 0) p) ≤ portal_count edges.measures
+  pub tracing : Tracing (graph_of edges) (node_rank (decode st)) goal p keys old new u i
 
-module _ {m : Measures} {st table keys : List ℕ} (k : Linked m st table (length keys)) where
-  pub walk_begins : (p : ℕ) (old : List ℕ) → p < portal_count m → get_or keys p 0 < unlinked → portal_count m ≤ length old → (e : ℕ) → e < portal_count m → keys ≡ keys_to (portal_graph (decode st)) e
-      → Walked m st table keys p old old p 0
+module _ {m : Measures} {st keys : List ℕ} {edges : Edges} (k : Linked m st edges (length keys)) where
+  pub walk_begins : (p : ℕ) (old : List ℕ) → p < portal_count edges.measures → get_or keys p 0 < unlinked → portal_count edges.measures ≤ length old → (e : ℕ) → e < portal_count edges.measures → keys ≡ keys_to (portal_graph (decode st)) e
+      → Walked edges st keys p old old p 0
   walk_begins p old l below room e le is =
       let h = decode st in
-      let all : (portal_graph h).nodes ≡ portal_count m = sym (ap (λ (g : Graph). g.nodes) (graph_is k)) in
+      let all : (portal_graph h).nodes ≡ portal_count edges.measures = sym (ap (λ (g : Graph). g.nodes) (graph_is k)) in
       let fits = fits_of k.opened in
       let ok : Settled (turned (portal_graph h)) e unlinked keys = rw is (keys_settled h fits e (omega arith)) in
-      let edges = few_edges (portal_keyed h fits) ok (node_rank h) p (omega arith) below in
-      let low : length (path (portal_graph h) (node_rank h) keys (get_or keys p 0) p) ≤ portal_count m = omega (arith, edges.0, edges.1) in
+      let counted = few_edges (portal_keyed h fits) ok (node_rank h) p (omega arith) below in
+      let low : length (path (portal_graph h) (node_rank h) keys (get_or keys p 0) p) ≤ portal_count edges.measures = omega (arith, counted.0, counted.1) in
       record {
         goal = e;
         inside = le;
         start = ok.rough.start;
-        few = subst (λ (g : Graph). length (path g (node_rank h) keys (get_or keys p 0) p) ≤ portal_count m) (sym (graph_is k)) low;
+        few = subst (λ (g : Graph). length (path g (node_rank h) keys (get_or keys p 0) p) ≤ portal_count edges.measures) (sym (graph_is k)) low;
         tracing = subst (λ (g : Graph). Tracing g (node_rank h) e p keys old old p 0) (sym (graph_is k)) (tracing_none ok (portal_sound h fits) (omega arith) below (omega arith));
       }
 
-  module _ {p : ℕ} {old new : List ℕ} {u i : ℕ} (w : Walked m st table keys p old new u i) where
-    pub walk_at : u < portal_count m
-    walk_at = tracing_node w.tracing (searched_of k).graph.sound w.inside
+  module _ {p : ℕ} {old new : List ℕ} {u i : ℕ} (w : Walked edges st keys p old new u i) where
+    pub walk_at : u < portal_count edges.measures
+    walk_at = tracing_node w.tracing edges.sound w.inside
 
-    pub walk_room : (i < length new) × (i < portal_count m)
+    pub walk_room : (i < length new) × (i < portal_count edges.measures)
     walk_room = ((tracing_room w.tracing).0, omega (arith, (tracing_room w.tracing).1, w.few))
 
     pub walk_long : length new ≡ length old
     walk_long = omega (arith, ap length w.tracing.written, length-append w.tracing.passed (drop i old), length-drop i old, w.tracing.many, (tracing_room w.tracing).1, w.tracing.room)
 
-    pub walk_on : {v : ℕ} → (get_or keys u 0 ≡ 0 → ⊥) → v ≡ next (table_graph m table) (node_rank (decode st)) keys u (arc_count m) → Walked m st table keys p old (set new i u) v (i + 1)
+    pub walk_on : {v : ℕ} → (get_or keys u 0 ≡ 0 → ⊥) → v ≡ next (graph_of edges) (node_rank (decode st)) keys u (arc_count edges.measures) → Walked edges st keys p old (set new i u) v (i + 1)
     walk_on n e = rw e (record { goal = w.goal; inside = w.inside; start = w.start; few = w.few; tracing = tracing_more w.tracing w.start n })
+
+    -- a portal follows on one that is not at the goal
+    pub walk_some : (get_or keys u 0 ≡ 0 → ⊥) → (r : Option ℕ) → unwrap_or r (portal_count edges.measures) ≡ next (graph_of edges) (node_rank (decode st)) keys u (arc_count edges.measures) → IsSome r
+    walk_some n None e = let on = tracing_node (tracing_more w.tracing w.start n) edges.sound w.inside in absurd (omega (arith, e, on))
+    walk_some n (Some v) e = refl
 
     pub walk_ends : get_or keys u 0 ≡ 0
         → (i + 1 ≡ length (least_path (decode st) (portal_graph (decode st)) keys p)) × (set new i u ≡ least_path (decode st) (portal_graph (decode st)) keys p ++ drop (i + 1) old)

@@ -1,15 +1,19 @@
 // The least path, written down portal by portal: by cost, then edges, then PortalNode order.
-ghost use Rattle.std.specs.Prelude.{◌≡◌, true, List, ◌++◌, ℕ, ◌*◌, ◌/◌, ◌≤◌, ◌<◌, length, get_or, drop};
+ghost use Rattle.std.specs.Prelude.{◌≡◌, true, ◌++◌, ℕ, ◌*◌, ◌/◌, ◌≤◌, ◌<◌, length, get_or, drop};
+ghost use Rattle.std.specs.Option.{unwrap_or};
+ghost use Rattle.laws.specs.Graph.{Graph};
 ghost use Rattle.laws.specs.FirstPath.{better, closer, next};
 ghost use Rattle.model.specs.Windows.{border_cell};
 ghost use Rattle.model.specs.Portals.{portal_count, arc_count, arc_tail, is_portal, portal_graph};
 ghost use Rattle.model.specs.LeastPath.{unlinked, cell_rank, node_rank, keys_to, least_path};
 ghost use Rattle.model.specs.Store.{decode};
-ghost use Rattle.graph.specs.EdgeTable.{Opened, table_graph};
+ghost use Rattle.graph.specs.EdgeTable.{Opened};
+ghost use Rattle.graph.specs.Edges.{graph_of};
 ghost use Rattle.path.specs.Following.{Linked, Best};
 
-use fields::sectors::{SECTOR_CELLS, sectors};
+use fields::sectors::SECTOR_CELLS;
 use graph::portals::{SECTOR_PORTALS, head_of, portal_run, portal_sector, portal_side};
+use graph::table::Edges;
 use model::{Measures, Side};
 
 // The rank of the cell at a place of a side: by column, then row.
@@ -37,32 +41,32 @@ fn node_rank(st: &[u8], m: Measures, p: usize) -> usize
     ((portal_sector(p) * SECTOR_CELLS + first) * SECTOR_CELLS + last) * 4 + side as usize
 }
 
-// Whether portal v comes before the best so far; the number of all portals says that there is none yet.
-fn better(st: &[u8], m: Measures, v: usize, best: usize) -> bool
-    requires { Opened m st.now × (is_portal (decode st.now) v ≡ true) × Best m st.now best }
-    ensures { (table : List ℕ) → result ≡ better (table_graph m table) (node_rank (decode st.now)) v best }
+// Whether portal v comes before the best so far, if there is one.
+fn better(st: &[u8], m: Measures, v: usize, best: Option<usize>) -> bool
+    requires { Opened m st.now × (is_portal (decode st.now) v ≡ true) × Best st.now best }
+    ensures { (g : Graph) → ((p : ℕ) → is_portal (decode st.now) p ≡ true → p < g.nodes) → result ≡ better g (node_rank (decode st.now)) v (unwrap_or best g.nodes) }
 {
-    if best == sectors(m) * SECTOR_PORTALS {
-        return true;
+    match best {
+        Some(best) => node_rank(st, m, v) < node_rank(st, m, best),
+        None => true,
     }
-    node_rank(st, m, v) < node_rank(st, m, best)
 }
 
 // The best so far, or the head of arc a of portal u where a least path goes along it and it comes before.
 fn closer(
     st: &[u8],
     m: Measures,
-    table: &[u32],
+    edges: Edges,
     keys: &[u32],
     u: usize,
     a: usize,
-    best: usize,
-) -> usize
-    requires { Linked m st.now table.now (length keys.now) × (a < arc_count m) × (u ≡ arc_tail a) × Best m st.now best }
-    ensures is { result ≡ closer (table_graph m table.now) (node_rank (decode st.now)) keys.now u a best }
-    ensures some { Best m st.now result }
+    best: Option<usize>,
+) -> Option<usize>
+    requires { Linked m st.now edges (length keys.now) × (a < arc_count edges.measures) × (u ≡ arc_tail a) × Best st.now best }
+    ensures is { let n = portal_count edges.entry.measures in unwrap_or result n ≡ closer (graph_of edges.entry) (node_rank (decode st.now)) keys.now u a (unwrap_or best n) }
+    ensures some { Best st.now result }
 {
-    let w = table[a];
+    let w = edges.weights[a];
     if w == 0 {
         return best;
     }
@@ -70,27 +74,24 @@ fn closer(
     if key < w {
         return best;
     }
-    let v = head_of(m, u, a % SECTOR_PORTALS);
+    let v = head_of(edges.measures, u, a % SECTOR_PORTALS);
     if key - w != keys[v] {
         return best;
     }
     if better(st, m, v, best) {
-        return v;
+        return Some(v);
     }
     best
 }
 
-// The portal after u on the least path.
-fn next_portal(st: &[u8], m: Measures, table: &[u32], keys: &[u32], u: usize) -> usize
-    requires { Linked m st.now table.now (length keys.now) × (u < portal_count m) }
-    ensures { result ≡ next (table_graph m table.now) (node_rank (decode st.now)) keys.now u (arc_count m) }
+// The portal after u on the least path, if there is one.
+fn next_portal(st: &[u8], m: Measures, edges: Edges, keys: &[u32], u: usize) -> Option<usize>
+    requires { Linked m st.now edges (length keys.now) × (u < portal_count edges.measures) }
+    ensures { unwrap_or result (portal_count edges.entry.measures) ≡ next (graph_of edges.entry) (node_rank (decode st.now)) keys.now u (arc_count edges.entry.measures) }
 {
-    let mut best = sectors(m) * SECTOR_PORTALS;
-    let mut a = u * SECTOR_PORTALS;
-    let end = a + SECTOR_PORTALS;
-    while a < end {
-        best = closer(st, m, table, keys, u, a, best);
-        a += 1;
+    let mut best = None;
+    for a in u * SECTOR_PORTALS..u * SECTOR_PORTALS + SECTOR_PORTALS {
+        best = closer(st, m, edges, keys, u, a, best);
     }
     best
 }
@@ -99,13 +100,13 @@ fn next_portal(st: &[u8], m: Measures, table: &[u32], keys: &[u32], u: usize) ->
 pub fn least_path(
     st: &[u8],
     m: Measures,
-    table: &[u32],
+    edges: Edges,
     keys: &[u32],
     p: usize,
     nodes: &mut [u16],
 ) -> usize
-    requires linked { Linked m st.now table.now (length keys.now) × (p < portal_count m) × (get_or keys.now p 0 < unlinked) × (portal_count m ≤ length nodes.old) }
-    requires by_index { (e : ℕ) × (e < portal_count m) × (keys.now ≡ keys_to (portal_graph (decode st.now)) e) }
+    requires linked { Linked m st.now edges (length keys.now) × (p < portal_count edges.measures) × (get_or keys.now p 0 < unlinked) × (portal_count edges.measures ≤ length nodes.old) }
+    requires by_index { (e : ℕ) × (e < portal_count edges.measures) × (keys.now ≡ keys_to (portal_graph (decode st.now)) e) }
     ensures count { result ≡ length (least_path (decode st.now) (portal_graph (decode st.now)) keys.now p) }
     ensures portals { nodes.new ≡ least_path (decode st.now) (portal_graph (decode st.now)) keys.now p ++ drop result nodes.old }
 {
@@ -114,7 +115,7 @@ pub fn least_path(
     while keys[u] != 0 {
         nodes[i] = u as u16;
         i += 1;
-        u = next_portal(st, m, table, keys, u);
+        u = next_portal(st, m, edges, keys, u).unwrap();
     }
     nodes[i] = u as u16;
     i + 1

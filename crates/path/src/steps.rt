@@ -9,7 +9,6 @@ ghost use Rattle.model.specs.Store.{decode};
 ghost use Rattle.graph.specs.EdgeTable.{Opened};
 ghost use Rattle.path.specs.PortalPaths.{PortalPath};
 
-use fields::numbers::{byte, wide};
 use fields::sectors::SECTOR_CELLS;
 use graph::portals::{midpoint, portal_sector, window_of_portal};
 use model::{Measures, RouteStep, Routed, SectorID};
@@ -37,10 +36,10 @@ fn sector_at(m: Measures, s: usize) -> SectorID
     requires { (1 ≤ m.rows) × (s < 256) }
     ensures { result ≡ sector_at m s }
 {
-    let rows = wide(m.rows);
+    let rows = usize::from(m.rows);
     SectorID {
-        column: byte(s / rows),
-        row: byte(s % rows),
+        column: (s / rows) as u8,
+        row: (s % rows) as u8,
     }
 }
 
@@ -55,7 +54,7 @@ fn step_at(st: &[u8], m: Measures, p: usize) -> RouteStep
     RouteStep {
         column: sector.column,
         row: sector.row,
-        goal: byte(goal),
+        goal: goal as u8,
         side: w.side,
         first: w.first,
         last: w.last,
@@ -67,12 +66,14 @@ fn put_step(list: &mut [u8], step: RouteStep)
     requires { 6 ≤ length list.old }
     ensures { list.new ≡ step_bytes step ++ drop 6 list.old }
 {
-    list[0] = step.column;
-    list[1] = step.row;
-    list[2] = step.goal;
-    list[3] = step.side;
-    list[4] = step.first;
-    list[5] = step.last;
+    list[..6].copy_from_slice(&[
+        step.column,
+        step.row,
+        step.goal,
+        step.side,
+        step.first,
+        step.last,
+    ]);
 }
 
 // The last step, which has the goal and no window, at the front of a list.
@@ -84,7 +85,7 @@ pub fn write_last(m: Measures, s: usize, goal: usize, list: &mut [u8])
     let step = RouteStep {
         column: sector.column,
         row: sector.row,
-        goal: byte(goal % SECTOR_CELLS),
+        goal: (goal % SECTOR_CELLS) as u8,
         side: 4,
         first: 0,
         last: 0,
@@ -98,17 +99,10 @@ pub fn write_steps(st: &[u8], m: Measures, nodes: &[u16], n: usize, goal: usize,
     ensures { list.new ≡ flat_steps (steps_of (decode st.now) goal true (take n nodes.now)) ++ drop (6 * (n / 2 + 1)) list.old }
 {
     let count = n / 2;
-    let mut i = 0;
-    while i < count {
-        let at = 6 * i;
-        put_step(&mut list[at..], step_at(st, m, nodes[2 * i] as usize));
-        i += 1;
+    for i in 0..count {
+        let step = step_at(st, m, usize::from(nodes[2 * i]));
+        put_step(&mut list[6 * i..], step);
     }
-    let at = 6 * count;
-    write_last(
-        m,
-        portal_sector(nodes[n - 1] as usize),
-        goal,
-        &mut list[at..],
-    );
+    let last = portal_sector(usize::from(nodes[n - 1]));
+    write_last(m, last, goal, &mut list[6 * count..]);
 }

@@ -8,11 +8,12 @@ ghost use Rattle.graph.specs.EdgeTable.{Opened};
 ghost use Rattle.path.specs.Following.{Linked};
 ghost use Rattle.route.specs.Finding.{found_answer, found_into, last_route, Paired, pair_route};
 
-use choice::pair::{PAIRS, choose_pair};
+use choice::pair::choose_pair;
 use fields::sectors::{SECTOR_CELLS, sectors};
-use graph::edges::{KEY_STEP, fill_edges};
+use graph::edges::KEY_STEP;
 use graph::near::{moves_to, portal_moves};
 use graph::portals::{HALL_ARCS, HALL_PORTALS, SECTOR_ARCS, SECTOR_PORTALS};
+use graph::table::Edges;
 use model::{Measures, Routed};
 use path::least::least_path;
 use path::steps::{step_count, write_last, write_steps};
@@ -27,7 +28,7 @@ fn one_step(m: Measures, goal: usize, moves: u8, list: &mut [u8]) -> Routed
     let found = Routed::Route {
         steps: 1,
         leg: 0,
-        run: moves as u32,
+        run: u32::from(moves),
     };
     if list.len() / 6 < 1 {
         return found;
@@ -40,7 +41,7 @@ fn one_step(m: Measures, goal: usize, moves: u8, list: &mut [u8]) -> Routed
 fn through_pair(
     st: &[u8],
     m: Measures,
-    table: &[u32],
+    edges: Edges,
     p: usize,
     e: usize,
     goal: usize,
@@ -49,18 +50,18 @@ fn through_pair(
     keys: &mut [u32],
     list: &mut [u8],
 ) -> Routed
-    requires { Linked m st.now table.now (length keys.old) × Paired (decode st.now) p e }
+    requires { Linked m st.now edges (length keys.old) × Paired (decode st.now) p e }
     ensures answer { result ≡ found_answer (pair_route (decode st.now) goal p e leg last) }
     ensures steps { list.new ≡ found_into (pair_route (decode st.now) goal p e leg last) list.old }
 {
-    keys_to(m, table, e, keys);
-    let mut nodes: [u16; HALL_PORTALS] = [0; HALL_PORTALS];
-    let n = least_path(st, m, table, keys, p, &mut nodes);
+    keys_to(edges, e, keys);
+    let mut nodes = [0u16; HALL_PORTALS];
+    let n = least_path(st, m, edges, keys, p, &mut nodes);
     let steps = step_count(n);
     let found = Routed::Route {
         steps: steps as u32,
-        leg: leg as u32,
-        run: keys[p] / KEY_STEP + (last as u32),
+        leg: u32::from(leg),
+        run: keys[p] / KEY_STEP + u32::from(last),
     };
     if list.len() / 6 < steps {
         return found;
@@ -85,37 +86,24 @@ fn through_lists(
 {
     let legs = portal_moves(st, m, source);
     let lasts = portal_moves(st, m, goal);
-    fill_edges(st, m, table);
+    let edges = Edges::of_store(st, m, table);
     let p = source / SECTOR_CELLS * SECTOR_PORTALS;
     let q = goal / SECTOR_CELLS * SECTOR_PORTALS;
-    let k = choose_pair(m, table, p, q, &legs, &lasts, keys);
-    if PAIRS <= k {
+    let Some(pair) = choose_pair(edges, p, q, &legs, &lasts, keys) else {
         return Routed::NoRoute;
-    }
-    let leg = legs[k / SECTOR_PORTALS];
-    let last = lasts[k % SECTOR_PORTALS];
+    };
     through_pair(
         st,
         m,
-        table,
-        p + k / SECTOR_PORTALS,
-        q + k % SECTOR_PORTALS,
+        edges,
+        p + pair.start,
+        q + pair.end,
         goal,
-        leg,
-        last,
+        legs[pair.start],
+        lasts[pair.end],
         keys,
         list,
     )
-}
-
-// Room for the weights of the largest hall.
-fn table_room() -> [u32; HALL_ARCS] {
-    [0u32; HALL_ARCS]
-}
-
-// Room for its keys.
-fn key_room() -> [u32; HALL_PORTALS] {
-    [0u32; HALL_PORTALS]
 }
 
 // The same in lists of its own.
@@ -124,8 +112,8 @@ fn through_portals(st: &[u8], m: Measures, source: usize, goal: usize, list: &mu
     ensures answer { result ≡ found_answer (through_portals (decode st.now) (portal_graph (decode st.now)) source goal) }
     ensures steps { list.new ≡ found_into (through_portals (decode st.now) (portal_graph (decode st.now)) source goal) list.old }
 {
-    let mut table = table_room();
-    let mut keys = key_room();
+    let mut table = [0u32; HALL_ARCS];
+    let mut keys = [0u32; HALL_PORTALS];
     let arcs = sectors(m) * SECTOR_ARCS;
     let numbers = sectors(m) * SECTOR_PORTALS;
     through_lists(

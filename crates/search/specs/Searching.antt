@@ -7,22 +7,21 @@ use Rattle.laws.specs.Graph.{Sound}
 use Rattle.laws.specs.Relaxing.{relaxed}
 use Rattle.laws.specs.Offers.{offered, not_offered}
 use Rattle.laws.specs.Waiting.{awaited}
-use Rattle.laws.specs.Turns.{Searchable, searchable_in}
+use Rattle.laws.specs.Turns.{Searchable}
 use Rattle.model.specs.declared.Measures.{Measures}
-use Rattle.model.specs.Sectors.{sectors}
 use Rattle.model.specs.Portals.{portal_count, arc_count, arc_tail, arc_place, head_of}
 use Rattle.graph.specs.EdgeTable.{bare, table_graph}
+use Rattle.graph.specs.Edges.{graph_of}
+use Rattle.graph.specs.declared.table.Edges.{Edges}
 
--- a table whose arcs join numbers of the hall and weigh no more than 256 moves, a list of keys, and room for those that wait
-pub record Searched (m : Measures) (table : List ℕ) (keys wait : ℕ) : Type 0 where
-  pub few : sectors m ≤ 100
-  pub few_rows : m.rows ≤ 10
-  pub long : length table ≡ arc_count m
-  pub graph : Searchable (table_graph m table) 1048576 keys wait
+-- a list of keys of the length that a table of edges asks for, and room for those that wait
+pub record Searched (edges : Edges) (keys wait : ℕ) : Type 0 where
+  pub numbers : keys ≡ portal_count edges.measures
+  pub room : portal_count edges.measures ≤ wait
 
--- with other lists that are long enough
-pub searched_in : {m : Measures} {table : List ℕ} {k w i j : ℕ} → Searched m table k w → i ≡ portal_count m → portal_count m ≤ j → Searched m table i j
-searched_in s numbers room = record { few = s.few; few_rows = s.few_rows; long = s.long; graph = searchable_in s.graph numbers room }
+-- the table's graph can be searched with them: its arcs join numbers of the hall and weigh no more than 256 moves
+pub searchable_of : {edges : Edges} {keys wait : ℕ} → Searched edges keys wait → Searchable (graph_of edges) 1048576 keys wait
+searchable_of {edges} s = record { numbers = s.numbers; room = s.room; sound = edges.sound; light = edges.light }
 
 -- arc a from u to v with weight w
 module _ (m : Measures) (table d p : List ℕ) (a u : ℕ) (from : u ≡ arc_tail a) where

@@ -7,7 +7,7 @@ pub returns-then-last-eq-APART : goal.returns-then-last-eq-APART
 returns-then-last-eq-APART c = tried_none _ _ _ _ c.if-last-eq-APART.true
 
 pub returns-then-keys-v : goal.returns-then-keys-v
-returns-then-keys-v c = tried_kept _ _ _ _ c.if-keys-v.true
+returns-then-keys-v c = tried_kept _ c.args.last _ _ (omega arith)
 
 pub returns : goal.returns
-returns c = tried_took _ _ _ _ (omega arith) (omega arith)
+returns c = rw c.from.ensures (tried_took _ c.args.last _ _ (omega arith) (omega arith))

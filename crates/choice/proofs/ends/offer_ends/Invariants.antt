@@ -1,15 +1,9 @@
 -- `offer_ends` tries each end once. The loop's invariant: the goal's arcs before place k are taken.
 use mathlib.Core.Path.{◌≡◌}
-use Prim.Native.Nat.{◌-◌, ◌≤◌}
 use lib.ListN.{length}
 use Rattle.laws.specs.Graph.{Graph, Sound}
-use Rattle.model.specs.Portals.{sector_portals}
 use Rattle.choice.specs.Ends.{EndsBegun}
 use Rattle.choice.proofs.ends.offer_ends.Given as goal
 
 abbrev pub invariant-loop-k : goal.invariant-loop-k
-invariant-loop-k l = (l.k ≤ sector_portals) × (length l.keys ≡ length l.initial.keys) × (length l.wait ≡ length l.initial.wait)
-    × ((g : Graph) → Sound g → length l.initial.keys ≡ g.nodes → EndsBegun g l.q l.lasts 0 l.initial.keys l.initial.wait → EndsBegun g l.q l.lasts l.k l.keys l.wait)
-
-abbrev pub decreases-loop-k : goal.decreases-loop-k
-decreases-loop-k l = sector_portals - l.k
+invariant-loop-k l = (g : Graph) → Sound g → length l.initial.keys ≡ g.nodes → EndsBegun g l.q l.lasts 0 l.initial.keys l.initial.wait → EndsBegun g l.q l.lasts l.k l.keys l.wait

@@ -1,24 +1,41 @@
 -- `choose_pair` takes the first start, then the first end from it.
 use native.Mathlib.Omega.{arith}
-use mathlib.Core.Path.{◌≡◌}
+use mathlib.Core.Path.{◌≡◌, ◌∙◌}
 use Prim.Native.Nat.{ℕ, ◌<◌}
+use mathlib.Core.List.{List}
 use lib.ListN.{get_or, replicate, get_or-replicate}
 use Rattle.model.specs.Portals.{sector_portals}
-use Rattle.choice.specs.FirstPair.{no_start, first_pair}
+use Rattle.choice.specs.FirstPair.{no_start, some_end, first_pair}
 use Rattle.choice.proofs.pair.choose_pair.Goals as goal
 
-zero_at : (c : ℕ) → c < sector_portals → get_or {A = ℕ} (replicate sector_portals 0) c 0 ≡ 0
+abbrev zeros : List ℕ
+zeros = replicate sector_portals 0
+
+zero_at : (c : ℕ) → c < sector_portals → get_or zeros c 0 ≡ 0
 zero_at c l = get_or-replicate {A = ℕ} sector_portals c 0 0 l
 
-pub returns-then-c-ge-SECTOR_PORTALS : goal.returns-then-c-ge-SECTOR_PORTALS
-returns-then-c-ge-SECTOR_PORTALS c =
-    let given = c.requires.searched in
-    no_start given.0.graph.sound c.requires.both_ways c.args.p c.args.q given.1 given.2 c.args.legs.now c.args.lasts.now (replicate sector_portals 0) zero_at
-    c.keys_to_goal.new.keys c.keys_to_goal.ensures c.first_place-c.ensures c.if-c-ge-SECTOR_PORTALS.true
+pub returns-in_err-start : goal.returns-in_err-start
+returns-in_err-start c =
+    let edges = c.args.edges in
+    rw c.from_residual.ensures (
+    no_start edges.sound edges.both_ways c.args.p c.args.q c.requires.inside.0 c.requires.inside.1 c.args.legs.now c.args.lasts.now zeros zero_at
+    c.keys_to_goal.new.keys c.keys_to_goal.ensures c.in_err-start.ensures.first (omega arith))
+
+pub returns-in_err-end : goal.returns-in_err-end
+returns-in_err-end c =
+    let edges = c.args.edges in
+    let low : sector_portals < sector_portals = some_end edges.sound edges.both_ways c.args.p c.args.q c.requires.inside.0 c.requires.inside.1 c.args.legs.now c.args.lasts.now zeros zero_at
+    c.keys_to_goal.new.keys c.keys_to_goal.ensures c.in_ok-start.ensures.first c.in_ok-start.ensures.low c.keys_to.new.keys c.keys_to.ensures c.in_err-end.ensures.first in
+    absurd (omega arith)
+
+pub keys_to-requires : goal.keys_to-requires
+keys_to-requires c = (c.keys_to_goal.auto.keys ∙ c.requires.lists.0, omega (arith, c.in_ok-start.ensures.low))
+
+pub invariant_of-result : goal.invariant_of-result
+invariant_of-result c = record { start_low = c.in_ok-start.ensures.low; end_low = c.in_ok-end.ensures.low }
 
 pub returns : goal.returns
 returns c =
-    let given = c.requires.searched in
-    first_pair given.0.graph.sound c.requires.both_ways c.args.p c.args.q given.1 given.2 c.args.legs.now c.args.lasts.now (replicate sector_portals 0) zero_at
-    c.keys_to_goal.new.keys c.keys_to_goal.ensures c.first_place-c.ensures (omega (arith, c.if-c-ge-SECTOR_PORTALS.false)) c.keys_to.new.keys c.keys_to.ensures
-    c.first_place-d.ensures
+    let edges = c.args.edges in
+    first_pair edges.sound edges.both_ways c.args.p c.args.q c.requires.inside.0 c.requires.inside.1 c.args.legs.now c.args.lasts.now zeros zero_at
+    c.keys_to_goal.new.keys c.keys_to_goal.ensures c.in_ok-start.ensures.first c.in_ok-start.ensures.low c.keys_to.new.keys c.keys_to.ensures c.in_ok-end.ensures.first

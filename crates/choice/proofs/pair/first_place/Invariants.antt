@@ -1,5 +1,6 @@
 -- `first_place` keeps the first of the least. The loop's invariant: best is it among the places before c, and least is its run.
-use Prim.Native.Nat.{◌-◌, ◌≤◌}
+use Prim.Native.Nat.{◌<◌}
+use Rattle.std.specs.Option.{unwrap_or, IfSome}
 use Rattle.laws.specs.FirstLeast.{Picked}
 use Rattle.model.specs.LeastPath.{unlinked}
 use Rattle.model.specs.Portals.{sector_portals}
@@ -7,7 +8,4 @@ use Rattle.choice.specs.FirstPair.{place_run}
 use Rattle.choice.proofs.pair.first_place.Given as goal
 
 abbrev pub invariant-loop-c : goal.invariant-loop-c
-invariant-loop-c l = (l.c ≤ sector_portals) × Picked (place_run l.keys l.p l.legs l.lasts) unlinked sector_portals l.c l.least l.best
-
-abbrev pub decreases-loop-c : goal.decreases-loop-c
-decreases-loop-c l = sector_portals - l.c
+invariant-loop-c l = IfSome l.best (λ c. c < sector_portals) × Picked (place_run l.keys l.p l.legs l.lasts) unlinked sector_portals l.c l.least (unwrap_or l.best sector_portals)

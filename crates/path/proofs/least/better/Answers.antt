@@ -1,11 +1,9 @@
 -- `better` answers by the two ranks, where there is a best yet.
-use native.Mathlib.Omega.{arith}
 use Rattle.path.specs.Following.{better_none, better_some}
 use Rattle.path.proofs.least.better.Goals as goal
 
-pub returns-then-best-sectors : goal.returns-then-best-sectors
-returns-then-best-sectors c = λ table. better_none _ table _ _ _ (omega (arith, c.if-best-sectors.true, c.sectors.ensures))
+pub returns-in-None : goal.returns-in-None
+returns-in-None c = λ g inside. rw c.in-None.is (better_none g _ _)
 
-pub returns : goal.returns
-returns c =
-    λ table. better_some _ table _ _ _ (λ e. c.if-best-sectors.false (omega (arith, e, c.sectors.ensures))) c.node_rank.ensures c.node_rank-2.ensures
+pub returns-in-Some : goal.returns-in-Some
+returns-in-Some c = λ g inside. rw c.in-Some.is (better_some g _ _ c.in-Some.best (inside _ (rw c.in-Some.is at c.requires.2)) c.node_rank.ensures c.node_rank-in-Some.ensures)

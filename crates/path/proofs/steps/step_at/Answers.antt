@@ -28,4 +28,4 @@ sector_at-sector-requires c =
 pub returns : goal.returns
 returns c =
     step_is (decode c.args.st.now) c.args.p (measures_are c.requires.0) (rw c.portal_sector.ensures at c.sector_at-sector.ensures)
-    (c.byte.ensures ∙ c.midpoint-goal.ensures.0) c.window_of_portal-w.ensures
+    c.midpoint-goal.ensures.0 c.window_of_portal-w.ensures

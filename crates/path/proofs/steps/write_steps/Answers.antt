@@ -41,18 +41,18 @@ module _ (c : At-loop-i) (k : ℕ) (l : k < c.args.n) where
 pub loop-i-init : goal.loop-i-init
 loop-i-init c = search (rules, stepped_none)
 
-pub step_at-requires : goal.step_at-requires
-step_at-requires c = (c.requires.0, portal_at (goal.at.step_at-requires c).At-loop-i _ (omega arith))
+pub step_at-step-requires : goal.step_at-step-requires
+step_at-step-requires c = (c.requires.0, rw c.from.ensures (portal_at (goal.at.step_at-step-requires c).At-loop-i _ (omega arith)))
 
 pub loop-i-preserved : goal.loop-i-preserved
 loop-i-preserved c =
-    stepped_turn c.loop-i.invariant c.requires.3 (omega arith) (c.step_at.ensures ∙ ap (step_at (decode c.args.st.now)) (sym (in_path (goal.at.loop-i-preserved c).At-loop-i (2 * c.loop-i.i) (omega arith))))
+    stepped_turn c.loop-i.invariant c.requires.3 (omega arith) (c.step_at-step.ensures ∙ ap (step_at (decode c.args.st.now)) (c.from.ensures ∙ sym (in_path (goal.at.loop-i-preserved c).At-loop-i (2 * c.loop-i.i) (omega arith))))
     c.put_step.ensures
 
 pub write_last-requires : goal.write_last-requires
 write_last-requires c =
     let at_loop_i = (goal.at.write_last-requires c).At-loop-i in
-    let low : c.portal_sector.result < 256 = rw c.portal_sector.ensures (sector_low at_loop_i _ (omega (arith, some at_loop_i))) in
+    let low : c.portal_sector-last.result < 256 = rw (c.portal_sector-last.ensures, c.from-2.ensures) (sector_low at_loop_i _ (omega (arith, some at_loop_i))) in
     ((accepted_of c.requires.0).some_rows, low, simp (length-take, length-drop) (omega (arith, c.loop-i.invariant.same, c.requires.3)))
 
 pub returns : goal.returns
@@ -61,4 +61,4 @@ returns c =
     let n = c.args.n in
     let sector =
     ap₂ (λ (m : Measures) (p : ℕ). last_step (sector_at m (portal_sector p)) (place_of c.args.goal)) (sym (measures_are c.requires.0)) (sym (in_path at_loop_i (n - 1) (omega (arith, some at_loop_i)))) in
-    stepped_end c.loop-i.invariant c.requires.3 c.args.goal n (some at_loop_i) (long at_loop_i) refl (omega arith) sector (rw c.portal_sector.ensures at c.write_last.ensures)
+    stepped_end c.loop-i.invariant c.requires.3 c.args.goal n (some at_loop_i) (long at_loop_i) refl (omega arith) sector (rw (c.portal_sector-last.ensures, c.from-2.ensures) at c.write_last.ensures)

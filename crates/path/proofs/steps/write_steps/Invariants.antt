@@ -1,5 +1,4 @@
 -- `write_steps` writes the steps of a path: after i turns the list begins with the steps at the first i even positions.
-use Prim.Native.Nat.{◌-◌}
 use lib.ListN.{take}
 use Rattle.model.specs.Store.{decode}
 use Rattle.path.specs.Stepping.{Stepped}
@@ -7,6 +6,3 @@ use Rattle.path.proofs.steps.write_steps.Given as goal
 
 abbrev pub invariant-loop-i : goal.invariant-loop-i
 invariant-loop-i l = Stepped (decode l.st) (take l.n l.nodes) l.count l.i l.initial.list l.list
-
-abbrev pub decreases-loop-i : goal.decreases-loop-i
-decreases-loop-i l = l.count - l.i

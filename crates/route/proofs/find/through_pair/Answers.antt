@@ -1,7 +1,7 @@
 -- `through_pair` searches to the end portal, follows the least path and writes its steps.
 use native.Mathlib.Omega.{arith}
 use Prim.Native.Nat.{◌<◌, ◌≤◌}
-use mathlib.Core.Path.{◌≡◌, ap, ◌∙◌}
+use mathlib.Core.Path.{◌≡◌, sym, ap, ◌∙◌}
 use lib.ListN.{length}
 use Rattle.laws.specs.Graph.{Graph}
 use Rattle.model.specs.Sectors.{sectors}
@@ -11,16 +11,16 @@ use Rattle.model.specs.PortalCrossings.{Fits}
 use Rattle.model.specs.Store.{decode}
 use Rattle.model.specs.PortalNumbers.{portal_is}
 use Rattle.graph.specs.Reading.{accepted_of, fits_of, measures_are}
-use Rattle.path.specs.Following.{Linked, graph_is, searched_of, searched_both_ways}
+use Rattle.path.specs.Following.{Linked, graph_is, portal_inside}
 use Rattle.route.specs.Finding.{taken_few, taken_path, pair_no_room, pair_written}
 use Rattle.route.proofs.find.through_pair.Goals as goal
 use Rattle.route.proofs.find.through_pair.Goals.{After-keys_to, After-least_path-n, Start}
 
-same_sectors : (s : Start) → sectors (decode s.args.st.now).measures ≡ sectors s.args.m
-same_sectors s = ap sectors (measures_are s.requires.0.opened)
+start_low : (s : Start) → s.args.p < portal_count s.args.edges.measures
+start_low s = portal_inside s.requires.0 s.args.p s.requires.1.start
 
-start_low : (s : Start) → s.args.p < portal_count s.args.m
-start_low s = omega (arith, (portal_is _ _ s.requires.1.start).inside, same_sectors s)
+end_low : (s : Start) → s.args.e < portal_count s.args.edges.measures
+end_low s = omega (arith, s.requires.1.end, ap portal_count (s.requires.0.measured ∙ sym (measures_are s.requires.0.opened)))
 
 fits : (s : Start) → Fits (decode s.args.st.now)
 fits s = fits_of s.requires.0.opened
@@ -29,8 +29,8 @@ fits s = fits_of s.requires.0.opened
 keys_are : (c : After-keys_to) → c.keys_to.new.keys ≡ keys_to (portal_graph (decode c.args.st.now)) c.args.e
 keys_are c = c.keys_to.ensures ∙ ap (λ (g : Graph). keys_to g c.args.e) (graph_is c.requires.0)
 
-linked : (c : After-keys_to) → Linked c.args.m c.args.st.now c.args.table.now (length c.keys_to.new.keys)
-linked c = record { opened = c.requires.0.opened; filled = c.requires.0.filled; numbers = c.keys_to.auto.keys ∙ c.requires.0.numbers }
+linked : (c : After-keys_to) → Linked c.args.m c.args.st.now c.args.edges (length c.keys_to.new.keys)
+linked c = record { opened = c.requires.0.opened; measured = c.requires.0.measured; filled = c.requires.0.filled; numbers = c.keys_to.auto.keys ∙ c.requires.0.numbers }
 
 -- the path fits the list of portals
 few_portals : (l : After-least_path-n) → (l.least_path-n.result ≤ length l.least_path-n.new.nodes) × (length l.least_path-n.new.nodes ≡ hall_portals)
@@ -40,24 +40,24 @@ few_portals l = let s = l in (
 )
 
 pub keys_to-requires : goal.keys_to-requires
-keys_to-requires c = record { searched = (searched_of c.requires.0, omega (arith, c.requires.1.end, same_sectors (goal.at.keys_to-requires c).Start)); both_ways = searched_both_ways c.requires.0 }
+keys_to-requires c = (c.requires.0.numbers, end_low (goal.at.keys_to-requires c).Start)
 
 pub least_path-n-requires : goal.least_path-n-requires
 least_path-n-requires c =
     let start = (goal.at.least_path-n-requires c).Start in
     let after_keys_to = (goal.at.least_path-n-requires c).After-keys_to in
-    record { linked = (linked after_keys_to, start_low start, rw (keys_are after_keys_to) c.requires.1.linked, omega (arith, (accepted_of c.requires.0.opened).few_sectors)); by_index = (c.args.e, omega (arith, c.requires.1.end, same_sectors start), keys_are after_keys_to) }
+    record { linked = (linked after_keys_to, start_low start, rw (keys_are after_keys_to) c.requires.1.linked, omega (arith, c.args.edges.few)); by_index = (c.args.e, end_low start, keys_are after_keys_to) }
 
 pub offset_bounds-keys-p : goal.offset_bounds-keys-p
-offset_bounds-keys-p c = omega (arith, start_low (goal.at.offset_bounds-keys-p c).Start, (accepted_of c.requires.0.opened).few_sectors)
+offset_bounds-keys-p c = omega (arith, start_low (goal.at.offset_bounds-keys-p c).Start, c.args.edges.few)
 
 pub bounds-keys-p : goal.bounds-keys-p
 bounds-keys-p c = omega (arith, start_low (goal.at.bounds-keys-p c).Start, (linked (goal.at.bounds-keys-p c).After-keys_to).numbers)
 
 pub returns-then-list-steps : goal.returns-then-list-steps
 returns-then-list-steps c =
-    let both = pair_no_room _ (fits (goal.at.returns-then-list-steps c).Start) c.requires.1 _ _ _ (keys_are (goal.at.returns-then-list-steps c).After-keys_to) c.least_path-n.ensures.count c.least_path-n.ensures.portals _ _ _ _ c.step_count-steps.ensures c.if-list-steps.true in
-    record { answer = both.0; steps = both.1 }
+    let both = pair_no_room _ (fits (goal.at.returns-then-list-steps c).Start) c.requires.1 _ _ _ (keys_are (goal.at.returns-then-list-steps c).After-keys_to) c.least_path-n.ensures.count c.least_path-n.ensures.portals _ c.args.leg c.args.last _ c.step_count-steps.ensures c.if-list-steps.true in
+    record { answer = rw (c.from.ensures, c.from-2.ensures) both.0; steps = both.1 }
 
 pub write_steps-requires : goal.write_steps-requires
 write_steps-requires c = (
@@ -69,6 +69,6 @@ write_steps-requires c = (
 
 pub returns : goal.returns
 returns c =
-    let both = pair_written _ (fits (goal.at.returns c).Start) c.requires.1 _ _ _ (keys_are (goal.at.returns c).After-keys_to) c.least_path-n.ensures.count c.least_path-n.ensures.portals _ _ _ _ c.step_count-steps.ensures
+    let both = pair_written _ (fits (goal.at.returns c).Start) c.requires.1 _ _ _ (keys_are (goal.at.returns c).After-keys_to) c.least_path-n.ensures.count c.least_path-n.ensures.portals _ c.args.leg c.args.last _ c.step_count-steps.ensures
     c.if-list-steps.false c.write_steps.ensures in
-    record { answer = both.0; steps = both.1 }
+    record { answer = rw (c.from.ensures, c.from-2.ensures) both.0; steps = both.1 }

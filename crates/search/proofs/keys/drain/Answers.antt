@@ -1,39 +1,26 @@
 -- `drain` serves the numbers of the queue. The loop's invariant: all is as it was, or the work has fallen; the first number does wait.
 use native.Mathlib.Omega.{arith}
 use native.Mathlib.Nat.{lt_of_le_of_lt}
-use mathlib.Core.Path.{◌≡◌, refl, ◌∙◌}
+use mathlib.Core.Path.{◌≡◌, ap, ◌∙◌}
 use mathlib.Core.Logic.{inr, ⊎_elim}
 use mathlib.Core.List.{List}
-use Prim.Native.Nat.{ℕ, ◌+◌, ◌≤◌, ◌<◌}
+use Prim.Native.Nat.{ℕ, ◌<◌}
 use lib.ListN.{length, get_or}
-use Rattle.laws.specs.Graph.{Graph}
 use Rattle.laws.specs.Waiting.{work}
-use Rattle.laws.specs.Extending.{Keeps}
 use Rattle.laws.specs.Turns.{Turned, Lined}
-use Rattle.search.proofs.keys.drain.Invariants.{Draining}
+use Rattle.search.specs.declared.queue.Queue.{Queue}
 use Rattle.search.proofs.keys.drain.Goals as goal
 
--- one more turn
-module _ {g : Graph} {d₀ p₀ q₀ d p q : List ℕ} {t₀ t h u : ℕ} (then : Draining g d₀ p₀ q₀ t₀ d p q t h) (some : 0 < t₀) (lined : Lined (length d₀) p₀ q₀ t₀) (next : u ≡ get_or q h 0) where
-  first_falls : {e f : List ℕ} → Turned (length d) u d p e f → (h ≡ 0) × (t ≡ t₀) × (d ≡ d₀) × (p ≡ p₀) × (q ≡ q₀) → work e f < work d₀ p₀
-  first_falls turn w =
-      let first : u ≡ get_or q₀ 0 0 = next ∙ rw (w.0, w.4) refl in
-      let waits : 0 < get_or p u 0 = rw (first, w.3) (lined.waits some) in
-      rw (← w.2, ← w.3) (turn.fallen (omega (arith, lined.low some, then.long_d)) waits)
+-- the first number's turn
+first_falls : {d₀ p₀ d p e f : List ℕ} {q₀ q : Queue} {u : ℕ} → Lined (length d₀) p₀ q₀.numbers q₀.end → q₀.head ≡ 0 → 0 < q₀.end → u ≡ get_or q.numbers q.head 0
+    → Turned (length d) u d p e f → (q ≡ q₀) × (d ≡ d₀) × (p ≡ p₀) → work e f < work d₀ p₀
+first_falls {q₀ = q₀} {u = u} lined none some next turn w =
+    let first : u ≡ get_or q₀.numbers 0 0 = next ∙ ap (λ (x : Queue). get_or x.numbers x.head 0) w.0 ∙ ap (λ (h : ℕ). get_or q₀.numbers h 0) none in
+    rw (← w.1, ← w.2) (turn.fallen (rw (w.1, first) (lined.low some)) (rw (w.2, first) (lined.waits some)))
 
-  draining_more : {e f r : List ℕ} {s : ℕ} → length e ≡ length d → length f ≡ length p → length r ≡ length q → s ≤ length q → Keeps g d p e f → Turned (length d) u d p e f
-      → Draining g d₀ p₀ q₀ t₀ e f r s (h + 1)
-  draining_more le lf lr l k turn =
-      record {
-        long_d = le ∙ then.long_d;
-        long_p = lf ∙ then.long_p;
-        long_q = lr ∙ then.long_q;
-        room = omega arith;
-        kept = λ g' o ext s top w. k g' o ext s top (then.kept g' o ext s top w);
-        turns = inr (⊎_elim (first_falls turn) (λ fell. lt_of_le_of_lt turn.risen fell) then.turns);
-      }
-
-pub loop-h-preserved : goal.loop-h-preserved
-loop-h-preserved c =
-    draining_more c.loop-h.invariant c.requires.2 c.requires.3 refl c.serve-t.auto.keys c.serve-t.auto.wait c.serve-t.auto.queue c.serve-t.ensures.room c.serve-t.ensures.kept
-    c.serve-t.ensures.turn
+pub loop-u-preserved : goal.loop-u-preserved
+loop-u-preserved c =
+    let turn = c.serve.ensures.turn in (
+      λ g o ext s top w. c.serve.ensures.kept g o ext s top (c.loop-u.invariant.0 g o ext s top w),
+      inr (⊎_elim (first_falls c.requires.lined.0 c.requires.lined.1 c.requires.lined.2 c.in-Some.ensures.0 turn) (λ fell. lt_of_le_of_lt turn.risen fell) c.loop-u.invariant.1),
+    )

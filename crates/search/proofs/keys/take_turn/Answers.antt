@@ -2,12 +2,7 @@
 use Rattle.search.specs.Turns.{served_own}
 use Rattle.search.proofs.keys.take_turn.Goals as goal
 
-pub returns : goal.returns
-returns c =
+pub returns-clause-served : goal.returns-clause-served
+returns-clause-served c =
     let took = c.offer.ensures.taken in
-    record {
-      served =
-          rw (took.0, took.1) (served_own c.args.keys.now c.args.wait.now c.args.u c.requires.searched c.requires.low
-          (c.offers_inside.ensures c.if-offers_inside.false));
-      room = c.offer.ensures.room;
-    }
+    rw (took.0, took.1) (served_own c.args.keys.now c.args.wait.now c.args.u c.requires.0 c.requires.1 (c.offers_inside.ensures c.if-offers_inside.false))

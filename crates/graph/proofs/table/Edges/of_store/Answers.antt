@@ -1,0 +1,18 @@
+-- `of_store` gives the filled list: its arcs are those of the portal graph.
+use Rattle.graph.specs.Reading.{accepted_of}
+use Rattle.graph.specs.Edges.{filled_long, filled_sound, filled_light, filled_both_ways}
+use Rattle.graph.proofs.table.Edges.of_store.Goals as goal
+
+pub invariant_of-result : goal.invariant_of-result
+invariant_of-result c =
+    let opened = c.requires.0 in
+    let filled = c.fill_edges.ensures in
+    let fits = accepted_of opened in
+    record {
+      few = fits.few_sectors;
+      few_rows = fits.few_rows;
+      long = filled_long opened filled;
+      sound = filled_sound opened filled;
+      light = filled_light opened filled;
+      both_ways = ∣ filled_both_ways opened filled ∣₁;
+    }

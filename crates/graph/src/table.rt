@@ -1,0 +1,38 @@
+// The weights of a hall's edges, with what a search needs to know of them.
+ghost use Rattle.std.specs.Prelude.{◌≡◌, ℕ, ◌≤◌, ◌<◌, length, get_or};
+ghost use Rattle.laws.specs.Graph.{Sound, BothWays};
+ghost use Rattle.model.specs.Sectors.{sectors};
+ghost use Rattle.model.specs.Portals.{arc_count};
+ghost use Rattle.model.specs.Store.{decode};
+ghost use Rattle.graph.specs.EdgeTable.{Opened, edge_table, table_graph};
+
+use crate::edges::fill_edges;
+use model::Measures;
+
+// The weights of the edges of a hall of these measures by arc number, 0 where there is no edge: edges join numbers of the hall, weigh no more than 256 moves, and lead both ways.
+#[derive(Clone, Copy)]
+pub struct Edges<'a> {
+    pub measures: Measures,
+    pub weights: &'a [u32],
+    ghost few: { sectors measures ≤ 100 },
+    ghost few_rows: { measures.rows ≤ 10 },
+    ghost long: { length weights.now ≡ arc_count measures },
+    ghost sound: { Sound (table_graph measures weights.now) },
+    ghost light: { (e : ℕ) → e < arc_count measures → get_or weights.now e 0 ≤ 1048576 },
+    ghost both_ways: { ∥ BothWays (table_graph measures weights.now) ∥₁ },
+}
+
+impl<'a> Edges<'a> {
+    // The edges of the portal graph of a store, in a lent list.
+    pub fn of_store(st: &[u8], m: Measures, table: &'a mut [u32]) -> Edges<'a>
+        requires { Opened m st.now × (length table.old ≡ arc_count m) }
+        ensures measures { result.measures ≡ m }
+        ensures weights { result.weights.now ≡ edge_table (decode st.now) }
+    {
+        fill_edges(st, m, table);
+        Edges {
+            measures: m,
+            weights: table,
+        }
+    }
+}
