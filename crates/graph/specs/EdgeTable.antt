@@ -125,11 +125,6 @@ row_clear p k t₀ {ys} size room e = rw (within_came first sector_portals k zer
         subst (λ (i : ℕ). get_or (within first sector_portals zeros t₀) i 0 ≡ f i) (sym place) there
 
 -- ---- a store that passes the check
--- what every function below is given: a store that passes, and its measures
-pub record Opened (m : Measures) (st : List ℕ) : Type 0 where
-  pub passes : Checked st
-  pub read : m ≡ measures_at st
-
 pub checked_fits : {st : List ℕ} → Checked st → Fits (decode st)
 unfolding decode
 checked_fits {st} ok = record { small = ok.measures.few_sectors; marked = λ s side. go s side (below_or (s * 4 + side_number side) (sectors (measures_at st) * 4)) }

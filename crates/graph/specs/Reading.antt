@@ -15,7 +15,8 @@ use Rattle.model.specs.Store.{size_of, marks_in, hall_in, decode}
 use Rattle.store.specs.Layout.{hall_read}
 use Rattle.portal.specs.declared.runs.OpenRun.{OpenRun}
 use Rattle.portal.specs.Runs.{places_of}
-use Rattle.graph.specs.EdgeTable.{Opened, checked_fits}
+use Rattle.store.specs.Passed.{Passed}
+use Rattle.graph.specs.EdgeTable.{checked_fits}
 
 -- a window's first and last place, as they were found
 pub record Places (mark j : ℕ) (w : OpenRun) : Type 0 where
@@ -24,7 +25,7 @@ pub record Places (mark j : ℕ) (w : OpenRun) : Type 0 where
   pub low_first : w.«first» < 10
   pub low_last : w.last < 10
 
-module _ {m : Measures} {st : List ℕ} (o : Opened m st) where
+module _ {m : Measures} {st : List ℕ} (o : Passed m st) where
   pub measures_are : (decode st).measures ≡ m
   unfolding decode
   measures_are = sym o.read

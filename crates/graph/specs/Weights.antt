@@ -17,11 +17,12 @@ use Rattle.model.specs.PortalCrossings.{Fits, mid_low}
 use Rattle.model.specs.PortalEdges.{weight_at}
 use Rattle.model.specs.Store.{decode}
 use Rattle.moves.specs.Levels.{moves_or_none}
-use Rattle.graph.specs.EdgeTable.{Opened, bare}
+use Rattle.store.specs.Passed.{Passed}
+use Rattle.graph.specs.EdgeTable.{bare}
 use Rattle.graph.specs.Near.{mid_of, sector_mids, near_by, mid_some, mid_none}
 
 -- the edge to the facing portal q: x says whether there is a sector beyond, y whether q is a portal
-pub outer_is : {m : Measures} {st : List ℕ} → Opened m st → (p : ℕ) (x y : Bool) {s q : ℕ} {side : Side} {b d : Bool} → s ≡ portal_sector p → side ≡ portal_side p → b ≡ has_beyond m s side → b ≡ x
+pub outer_is : {m : Measures} {st : List ℕ} → Passed m st → (p : ℕ) (x y : Bool) {s q : ℕ} {side : Side} {b d : Bool} → s ≡ portal_sector p → side ≡ portal_side p → b ≡ has_beyond m s side → b ≡ x
     → q ≡ facing (bare m) p → d ≡ is_portal (decode st) q → d ≡ y → pick (x && y) (key 1) 0 ≡ outer_edge (decode st) p
 unfolding outer_edge facing decode
 outer_is o p x y s e f b g k d = rw (← b, ← d, k, g, f, s, e, o.read) refl

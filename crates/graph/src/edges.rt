@@ -2,17 +2,17 @@
 ghost use Rattle.std.specs.Prelude.{◌≡◌, ◌+◌, ◌*◌, ◌/◌, ◌%◌, ◌≤◌, ◌<◌, length, get_or};
 ghost use Rattle.model.specs.Sectors.{sectors, costs_of};
 ghost use Rattle.model.specs.Portals.{sector_portals, hall_portals, sector_arcs, portal_count, arc_count, portal_sector, portal_place, outer_edge};
-ghost use Rattle.model.specs.Store.{decode};
 ghost use Rattle.moves.specs.Levels.{open_words};
-ghost use Rattle.graph.specs.EdgeTable.{Opened, Filled, Row, edge_table};
+ghost use Rattle.store.specs.Stored.{stored};
+ghost use Rattle.graph.specs.EdgeTable.{Filled, Row, edge_table};
 ghost use Rattle.graph.specs.Near.{sector_mids};
 ghost use Rattle.graph.specs.Weights.{edge_by};
 
 use crate::near::{NO_CROSSING, moves_from, near_by, sector_mids, sector_words};
 use crate::portals::{SECTOR_PORTALS, facing, is_portal, portal_sector, portal_side};
 use fields::sectors::{SECTOR_CELLS, neighbour, sectors};
-use model::Measures;
 use moves::spread::Spread;
+use store::opened::Opened;
 
 // An edge of weight w has the key KEY_STEP * w + 1, so that the least key of a path is the least cost, then the fewest edges.
 pub const KEY_STEP: u32 = 4096;
@@ -23,14 +23,14 @@ const FACING_KEY: u32 = KEY_STEP + 1;
 pub const UNLINKED: u32 = 4294967295;
 
 // A portal's edge to the facing one, or 0.
-fn outer_edge(st: &[u8], m: Measures, p: usize) -> u32
-    requires { Opened m st.now × (p < portal_count m) }
-    ensures { result ≡ outer_edge (decode st.now) p }
+fn outer_edge(hall: &Opened<'_>, p: usize) -> u32
+    requires { p < portal_count hall.now.store.measures }
+    ensures { result ≡ outer_edge (stored hall.now) p }
 {
-    if neighbour(m, portal_sector(p), portal_side(p)).is_none() {
+    if neighbour(hall.store.measures, portal_sector(p), portal_side(p)).is_none() {
         return 0;
     }
-    if is_portal(st, m, facing(m, p)) {
+    if is_portal(hall, facing(hall.store.measures, p)) {
         FACING_KEY
     } else {
         0
@@ -77,17 +77,16 @@ fn clear_places(p: usize, table: &mut [u32])
 
 // The edges of number p, with the midpoints and the open cells of its sector: one spread of moves, in place of the last, if it is a portal's.
 fn fill_number(
-    st: &[u8],
-    m: Measures,
+    hall: &Opened<'_>,
     p: usize,
     mids: &[u8; SECTOR_PORTALS],
     words: [u64; 2],
     spread: &mut Spread,
     table: &mut [u32],
 )
-    requires opened { Opened m st.now × (p < portal_count m) × (mids.now ≡ sector_mids (decode st.now) (portal_sector p)) × Filled (decode st.now) (p * sector_portals) table.old }
-    requires words_value { words ≡ open_words (costs_of (decode st.now).scaled (portal_sector p)) }
-    ensures { Filled (decode st.now) (p * sector_portals + sector_portals) table.new }
+    requires places { (p < portal_count hall.now.store.measures) × (mids.now ≡ sector_mids (stored hall.now) (portal_sector p)) × Filled (stored hall.now) (p * sector_portals) table.old }
+    requires words { words ≡ open_words (costs_of (stored hall.now).scaled (portal_sector p)) }
+    ensures { Filled (stored hall.now) (p * sector_portals + sector_portals) table.new }
 {
     let mid = mids[p % SECTOR_PORTALS];
     if NO_CROSSING <= mid {
@@ -95,22 +94,21 @@ fn fill_number(
         return;
     }
     let cell = portal_sector(p) * SECTOR_CELLS + usize::from(mid);
-    moves_from(st, m, cell, words, spread);
-    fill_places(p, spread, mids, outer_edge(st, m, p), table);
+    moves_from(hall, cell, words, spread);
+    fill_places(p, spread, mids, outer_edge(hall, p), table);
 }
 
 // The edges of the 20 numbers of sector s.
-fn fill_sector(st: &[u8], m: Measures, s: usize, table: &mut [u32])
-    requires { Opened m st.now × (s < sectors m) × Filled (decode st.now) (s * sector_arcs) table.old }
-    ensures { Filled (decode st.now) (s * sector_arcs + sector_arcs) table.new }
+fn fill_sector(hall: &Opened<'_>, s: usize, table: &mut [u32])
+    requires { (s < sectors hall.now.store.measures) × Filled (stored hall.now) (s * sector_arcs) table.old }
+    ensures { Filled (stored hall.now) (s * sector_arcs + sector_arcs) table.new }
 {
-    let mids = sector_mids(st, m, s);
-    let words = sector_words(st, m, s);
+    let mids = sector_mids(hall, s);
+    let words = sector_words(hall, s);
     let mut spread = Spread::new();
     for c in 0..SECTOR_PORTALS {
         fill_number(
-            st,
-            m,
+            hall,
             s * SECTOR_PORTALS + c,
             &mids,
             words,
@@ -121,11 +119,11 @@ fn fill_sector(st: &[u8], m: Measures, s: usize, table: &mut [u32])
 }
 
 // The weights of a hall's portal graph.
-pub fn fill_edges(st: &[u8], m: Measures, table: &mut [u32])
-    requires { Opened m st.now × (length table.old ≡ arc_count m) }
-    ensures { table.new ≡ edge_table (decode st.now) }
+pub fn fill_edges(hall: &Opened<'_>, table: &mut [u32])
+    requires { length table.old ≡ arc_count hall.now.store.measures }
+    ensures { table.new ≡ edge_table (stored hall.now) }
 {
-    for s in 0..sectors(m) {
-        fill_sector(st, m, s, table);
+    for s in 0..sectors(hall.store.measures) {
+        fill_sector(hall, s, table);
     }
 }

@@ -2,8 +2,8 @@
 ghost use Rattle.std.specs.Prelude.{◌≡◌, true, ◌*◌, ◌/◌, ◌≤◌, ◌<◌};
 ghost use Rattle.model.specs.Sectors.{sector_cells, sectors};
 ghost use Rattle.model.specs.Portals.{sector_portals, hall_portals, portal_sector, portal_side, portal_window, portal_mark, is_portal, window_of, midpoint, facing, head_of};
-ghost use Rattle.model.specs.Store.{decode};
-ghost use Rattle.graph.specs.EdgeTable.{Opened, bare};
+ghost use Rattle.store.specs.Stored.{stored};
+ghost use Rattle.graph.specs.EdgeTable.{bare};
 ghost use Rattle.graph.specs.Reading.{Places};
 
 use fields::sectors::{beyond, sectors};
@@ -12,7 +12,7 @@ use model::{Measures, PortalWindow, Side};
 use portal::border::border_index;
 use portal::runs::{OpenRun, window_at, window_count};
 use portal::windows::window_of;
-use store::layout::mark_in;
+use store::opened::Opened;
 
 // How many numbers for portals a side, a sector and the largest hall of 100 sectors have, and how many arcs: 20 for each of the numbers.
 const SIDE_PORTALS: usize = 5;
@@ -44,42 +44,42 @@ fn portal_window(p: usize) -> usize
     p % SIDE_PORTALS
 }
 
-fn mark_of(st: &[u8], m: Measures, p: usize) -> u16
-    requires { Opened m st.now × (portal_sector p < sectors m) }
-    ensures { (result ≡ portal_mark (decode st.now) p) × (result ≤ 1023) }
+fn mark_of(hall: &Opened<'_>, p: usize) -> u16
+    requires { portal_sector p < sectors hall.now.store.measures }
+    ensures { (result ≡ portal_mark (stored hall.now) p) × (result ≤ 1023) }
 {
-    mark_in(st, m, p / SIDE_PORTALS)
+    hall.store.mark(p / SIDE_PORTALS)
 }
 
 // Whether a number is a portal's.
-pub fn is_portal(st: &[u8], m: Measures, p: usize) -> bool
-    requires { Opened m st.now }
-    ensures { result ≡ is_portal (decode st.now) p }
+pub fn is_portal(hall: &Opened<'_>, p: usize) -> bool
+    ensures { result ≡ is_portal (stored hall.now) p }
 {
-    portal_sector(p) < sectors(m) && portal_window(p) < window_count(mark_of(st, m, p))
+    portal_sector(p) < sectors(hall.store.measures)
+        && portal_window(p) < window_count(mark_of(hall, p))
 }
 
 // The window of a portal: its first and last place, and its cells.
-pub fn portal_run(st: &[u8], m: Measures, p: usize) -> OpenRun
-    requires { Opened m st.now × (is_portal (decode st.now) p ≡ true) }
-    ensures { Places (portal_mark (decode st.now) p) (portal_window p) result }
+pub fn portal_run(hall: &Opened<'_>, p: usize) -> OpenRun
+    requires { is_portal (stored hall.now) p ≡ true }
+    ensures { Places (portal_mark (stored hall.now) p) (portal_window p) result }
 {
-    window_at(mark_of(st, m, p), portal_window(p))
+    window_at(mark_of(hall, p), portal_window(p))
 }
 
-pub fn window_of_portal(st: &[u8], m: Measures, p: usize) -> PortalWindow
-    requires { Opened m st.now × (is_portal (decode st.now) p ≡ true) }
-    ensures { result ≡ window_of (decode st.now) p }
+pub fn window_of_portal(hall: &Opened<'_>, p: usize) -> PortalWindow
+    requires { is_portal (stored hall.now) p ≡ true }
+    ensures { result ≡ window_of (stored hall.now) p }
 {
-    window_of(portal_side(p), mark_of(st, m, p), portal_window(p))
+    window_of(portal_side(p), mark_of(hall, p), portal_window(p))
 }
 
 // The crossing of a portal: the index of its midpoint.
-pub fn midpoint(st: &[u8], m: Measures, p: usize) -> usize
-    requires { Opened m st.now × (is_portal (decode st.now) p ≡ true) }
-    ensures { (result ≡ midpoint (decode st.now) p) × (result < sector_cells) }
+pub fn midpoint(hall: &Opened<'_>, p: usize) -> usize
+    requires { is_portal (stored hall.now) p ≡ true }
+    ensures { (result ≡ midpoint (stored hall.now) p) × (result < sector_cells) }
 {
-    let run = portal_run(st, m, p);
+    let run = portal_run(hall, p);
     usize::from(border_index(portal_side(p), (run.first + run.last) / 2))
 }
 

@@ -3,11 +3,12 @@ ghost use Rattle.std.specs.Prelude.{◌≡◌, ℕ, ◌≤◌, ◌<◌, length, 
 ghost use Rattle.laws.specs.Graph.{Sound, BothWays};
 ghost use Rattle.model.specs.Sectors.{sectors};
 ghost use Rattle.model.specs.Portals.{arc_count};
-ghost use Rattle.model.specs.Store.{decode};
-ghost use Rattle.graph.specs.EdgeTable.{Opened, edge_table, table_graph};
+ghost use Rattle.store.specs.Stored.{stored};
+ghost use Rattle.graph.specs.EdgeTable.{edge_table, table_graph};
 
 use crate::edges::fill_edges;
 use model::Measures;
+use store::opened::Opened;
 
 // The weights of the edges of a hall of these measures by arc number, 0 where there is no edge: edges join numbers of the hall, weigh no more than 256 moves, and lead both ways.
 #[derive(Clone, Copy)]
@@ -24,14 +25,14 @@ pub struct Edges<'a> {
 
 impl<'a> Edges<'a> {
     // The edges of the portal graph of a store, in a lent list.
-    pub fn of_store(st: &[u8], m: Measures, table: &'a mut [u32]) -> Edges<'a>
-        requires { Opened m st.now × (length table.old ≡ arc_count m) }
-        ensures measures { result.measures ≡ m }
-        ensures weights { result.weights.now ≡ edge_table (decode st.now) }
+    pub fn of_store(hall: &Opened<'_>, table: &'a mut [u32]) -> Edges<'a>
+        requires { length table.old ≡ arc_count hall.now.store.measures }
+        ensures measures { result.measures ≡ hall.now.store.measures }
+        ensures weights { result.weights.now ≡ edge_table (stored hall.now) }
     {
-        fill_edges(st, m, table);
+        fill_edges(hall, table);
         Edges {
-            measures: m,
+            measures: hall.store.measures,
             weights: table,
         }
     }

@@ -11,8 +11,8 @@ use Rattle.graph.proofs.near.moves_from.Goals as goal
 
 pub fill-requires : goal.fill-requires
 fill-requires c =
-    (c.sector_part.ensures.1, c.requires.2 ∙ ap open_words (sym (sector_read c.requires.0 _ c.sector_part.ensures.0)), omega arith)
+    (c.sector.ensures.1, c.requires.1 ∙ ap open_words (sym (sector_read c.args.hall.now.opened _ c.sector.ensures.0)), omega arith)
 
 pub returns : goal.returns
 returns c =
-    c.fill.ensures ∙ ap (λ (k : List ℕ). moves k (place_of c.args.x)) (sector_read c.requires.0 _ c.sector_part.ensures.0)
+    c.fill.ensures ∙ ap (λ (k : List ℕ). moves k (place_of c.args.x)) (sector_read c.args.hall.now.opened _ c.sector.ensures.0)

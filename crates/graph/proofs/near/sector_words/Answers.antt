@@ -6,4 +6,4 @@ use Rattle.graph.proofs.near.sector_words.Goals as goal
 
 pub returns : goal.returns
 returns c =
-    c.open_words.ensures ∙ ap open_words (sector_read c.requires.0 _ c.sector_part.ensures.0)
+    c.open_words.ensures ∙ ap open_words (sector_read c.args.hall.now.opened _ c.sector.ensures.0)

@@ -6,5 +6,5 @@ use Rattle.graph.proofs.portals.mark_of.Goals as goal
 
 pub returns : goal.returns
 returns c =
-    let is = c.mark_in.ensures ∙ mark_read c.requires.0 c.args.p c.requires.1 in
-    (is, omega (arith, is, mark_low c.requires.0 c.args.p))
+    let is = c.mark.ensures ∙ mark_read c.args.hall.now.opened c.args.p c.requires in
+    (is, omega (arith, is, mark_low c.args.hall.now.opened c.args.p))

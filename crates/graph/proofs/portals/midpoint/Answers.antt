@@ -5,7 +5,7 @@ use Prim.Native.Nat.{ℕ, ◌+◌, ◌/◌}
 use Rattle.model.specs.Windows.{border, first_place, last_place, crossing}
 use Rattle.model.specs.declared.Side.{Side}
 use Rattle.model.specs.Portals.{portal_mark, portal_window, midpoint}
-use Rattle.model.specs.Store.{decode}
+use Rattle.store.specs.Stored.{stored}
 use Rattle.model.specs.PortalCrossings.{mid_low}
 use Rattle.graph.specs.Reading.{fits_of}
 use Rattle.graph.proofs.portals.midpoint.Goals as goal
@@ -17,7 +17,7 @@ same n j e p q = rw (e, p, q)
 pub returns : goal.returns
 unfolding midpoint crossing
 returns c =
-    let h = decode c.args.st.now in
+    let h = stored c.args.hall.now in
     let is = c.from.ensures ∙ c.border_index.ensures
     ∙ same (portal_mark h c.args.p) (portal_window c.args.p) c.portal_side.ensures c.portal_run-run.ensures.begins c.portal_run-run.ensures.ends in
-    (is, omega (arith, is, mid_low h (fits_of c.requires.0) c.args.p c.requires.1))
+    (is, omega (arith, is, mid_low h (fits_of c.args.hall.now.opened) c.args.p c.requires))

@@ -5,14 +5,14 @@ use Rattle.graph.proofs.table.Edges.of_store.Goals as goal
 
 pub invariant_of-result : goal.invariant_of-result
 invariant_of-result c =
-    let opened = c.requires.0 in
+    let passed = c.args.hall.now.opened in
     let filled = c.fill_edges.ensures in
-    let fits = accepted_of opened in
+    let fits = accepted_of passed in
     record {
       few = fits.few_sectors;
       few_rows = fits.few_rows;
-      long = filled_long opened filled;
-      sound = filled_sound opened filled;
-      light = filled_light opened filled;
-      both_ways = ∣ filled_both_ways opened filled ∣₁;
+      long = filled_long passed filled;
+      sound = filled_sound passed filled;
+      light = filled_light passed filled;
+      both_ways = ∣ filled_both_ways passed filled ∣₁;
     }
