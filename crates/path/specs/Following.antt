@@ -10,55 +10,55 @@ use Rattle.laws.specs.Graph.{Graph, Settled, turned}
 use Rattle.laws.specs.FirstPath.{better, closer, next, path}
 use Rattle.laws.specs.Keys.{few_edges}
 use Rattle.laws.specs.Tracing.{next_skip, next_take, next_same, Tracing, tracing_none, tracing_node, tracing_room, tracing_over, tracing_more}
-use Rattle.model.specs.declared.Measures.{Measures}
 use Rattle.model.specs.declared.Side.{Side}
 use Rattle.model.specs.Cells.{side_number}
+use Rattle.model.specs.Halls.{Hall}
 use Rattle.model.specs.Windows.{border_cell, first_place, last_place}
 use Rattle.model.specs.Sectors.{sector_cells}
 use Rattle.model.specs.Portals.{sector_portals, portal_count, arc_count, portal_sector, portal_side, portal_window, arc_tail, arc_place, portal_mark, is_portal, head_of, portal_graph}
 use Rattle.model.specs.LeastPath.{cell_rank, node_rank, unlinked, keys_to, least_path}
 use Rattle.model.specs.PortalEdges.{head_portal, portal_node, portal_sound}
 use Rattle.model.specs.LeastPathFirst.{portal_keyed, keys_settled}
-use Rattle.model.specs.Store.{decode}
-use Rattle.graph.specs.EdgeTable.{Opened, bare, edge_table}
+use Rattle.store.specs.declared.opened.Opened.{Opened}
+use Rattle.store.specs.Stored.{stored}
+use Rattle.graph.specs.EdgeTable.{bare, edge_table}
 use Rattle.graph.specs.Reading.{fits_of}
 use Rattle.graph.specs.Edges.{graph_of, filled_graph}
 use Rattle.graph.specs.declared.table.Edges.{Edges}
 
--- a store that passes the check, its measures, its edges, and room for a key to each number
-pub record Linked (m : Measures) (st : List ℕ) (edges : Edges) (keys : ℕ) : Type 0 where
-  pub opened : Opened m st
-  pub measured : edges.measures ≡ m
-  pub filled : edges.weights.now ≡ edge_table (decode st)
+-- the edges of an opened store, and room for a key to each number
+pub record Linked (hall : Opened) (edges : Edges) (keys : ℕ) : Type 0 where
+  pub measured : edges.measures ≡ hall.store.measures
+  pub filled : edges.weights.now ≡ edge_table (stored hall)
   pub numbers : keys ≡ portal_count edges.measures
 
-module _ {m : Measures} {st : List ℕ} {edges : Edges} {keys : ℕ} (k : Linked m st edges keys) where
+module _ {hall : Opened} {edges : Edges} {keys : ℕ} (k : Linked hall edges keys) where
   -- the edges are those of the portal graph
-  pub graph_is : graph_of edges ≡ portal_graph (decode st)
-  graph_is = filled_graph (rw (sym k.measured) at k.opened) k.filled
+  pub graph_is : graph_of edges ≡ portal_graph (stored hall)
+  graph_is = filled_graph (rw (sym k.measured) at hall.opened) k.filled
 
   -- whose numbers are below the count
-  pub portal_inside : (v : ℕ) → is_portal (decode st) v ≡ true → v < portal_count edges.measures
-  portal_inside v e = omega (arith, portal_node (decode st) (fits_of k.opened) v e, ap (λ (g : Graph). g.nodes) graph_is)
+  pub portal_inside : (v : ℕ) → is_portal (stored hall) v ≡ true → v < portal_count edges.measures
+  portal_inside v e = omega (arith, portal_node (stored hall) (fits_of hall.opened) v e, ap (λ (g : Graph). g.nodes) graph_is)
 
   -- its arcs lead to portals
-  leads : (a : ℕ) → a < arc_count edges.measures → 0 < get_or edges.weights.now a 0 → is_portal (decode st) (head_of (bare edges.measures) (arc_tail a) (arc_place a)) ≡ true
-  leads = subst (λ (g : Graph). (a : ℕ) → a < g.arcs → 0 < g.weight a → is_portal (decode st) (g.head a) ≡ true) (sym graph_is) (head_portal (decode st) (fits_of k.opened))
+  leads : (a : ℕ) → a < arc_count edges.measures → 0 < get_or edges.weights.now a 0 → is_portal (stored hall) (head_of (bare edges.measures) (arc_tail a) (arc_place a)) ≡ true
+  leads = subst (λ (g : Graph). (a : ℕ) → a < g.arcs → 0 < g.weight a → is_portal (stored hall) (g.head a) ≡ true) (sym graph_is) (head_portal (stored hall) (fits_of hall.opened))
 
-  pub leads_to : (u a v : ℕ) → u ≡ arc_tail a → v ≡ head_of (bare edges.measures) u (arc_place a) → a < arc_count edges.measures → 0 < get_or edges.weights.now a 0 → is_portal (decode st) v ≡ true
-  leads_to u a v e f l p = ap (is_portal (decode st)) (f ∙ ap (λ (x : ℕ). head_of (bare edges.measures) x (arc_place a)) e) ∙ leads a l p
+  pub leads_to : (u a v : ℕ) → u ≡ arc_tail a → v ≡ head_of (bare edges.measures) u (arc_place a) → a < arc_count edges.measures → 0 < get_or edges.weights.now a 0 → is_portal (stored hall) v ≡ true
+  leads_to u a v e f l p = ap (is_portal (stored hall)) (f ∙ ap (λ (x : ℕ). head_of (bare edges.measures) x (arc_place a)) e) ∙ leads a l p
 
 -- ---- the order of portals
 -- a portal, or none yet
-abbrev pub Best : List ℕ → Option ℕ → Type 0
-Best st best = IfSome best (λ v. is_portal (decode st) v ≡ true)
+abbrev pub Best : Opened → Option ℕ → Type 0
+Best hall best = IfSome best (λ v. is_portal (stored hall) v ≡ true)
 
 -- a rank from its parts
-pub rank_is : (st : List ℕ) (p : ℕ) {side : Side} {s a b k : ℕ} → side ≡ portal_side p → s ≡ portal_sector p → a ≡ cell_rank (border_cell side (first_place (portal_mark (decode st) p) (portal_window p)))
-    → b ≡ cell_rank (border_cell side (last_place (portal_mark (decode st) p) (portal_window p)))
-    → k ≡ side_number side → ((s * sector_cells + a) * sector_cells + b) * 4 + k ≡ node_rank (decode st) p
+pub rank_is : (h : Hall) (p : ℕ) {side : Side} {s a b k : ℕ} → side ≡ portal_side p → s ≡ portal_sector p → a ≡ cell_rank (border_cell side (first_place (portal_mark h p) (portal_window p)))
+    → b ≡ cell_rank (border_cell side (last_place (portal_mark h p) (portal_window p)))
+    → k ≡ side_number side → ((s * sector_cells + a) * sector_cells + b) * 4 + k ≡ node_rank h p
 unfolding node_rank
-rank_is st p e s f g k = rw (k, s, f, g, e)
+rank_is h p e s f g k = rw (k, s, f, g, e)
 
 module _ (g : Graph) (rank : ℕ → ℕ) (a : ℕ) where
   pub better_none : true ≡ better g rank a g.nodes
@@ -108,20 +108,20 @@ module _ (edges : Edges) (rank : ℕ → ℕ) (keys : List ℕ) (u : ℕ) where
 
 -- ---- along the path
 -- i portals of the path from p are written, and u is the next
-pub record Walked (edges : Edges) (st keys : List ℕ) (p : ℕ) (old new : List ℕ) (u i : ℕ) : Type 0 where
+pub record Walked (edges : Edges) (hall : Opened) (keys : List ℕ) (p : ℕ) (old new : List ℕ) (u i : ℕ) : Type 0 where
   pub goal : ℕ
   pub inside : goal < portal_count edges.measures
   pub start : get_or keys goal 0 ≡ 0
-  pub few : length (path (graph_of edges) (node_rank (decode st)) keys (get_or keys p 0) p) ≤ portal_count edges.measures
-  pub tracing : Tracing (graph_of edges) (node_rank (decode st)) goal p keys old new u i
+  pub few : length (path (graph_of edges) (node_rank (stored hall)) keys (get_or keys p 0) p) ≤ portal_count edges.measures
+  pub tracing : Tracing (graph_of edges) (node_rank (stored hall)) goal p keys old new u i
 
-module _ {m : Measures} {st keys : List ℕ} {edges : Edges} (k : Linked m st edges (length keys)) where
-  pub walk_begins : (p : ℕ) (old : List ℕ) → p < portal_count edges.measures → get_or keys p 0 < unlinked → portal_count edges.measures ≤ length old → (e : ℕ) → e < portal_count edges.measures → keys ≡ keys_to (portal_graph (decode st)) e
-      → Walked edges st keys p old old p 0
+module _ {hall : Opened} {keys : List ℕ} {edges : Edges} (k : Linked hall edges (length keys)) where
+  pub walk_begins : (p : ℕ) (old : List ℕ) → p < portal_count edges.measures → get_or keys p 0 < unlinked → portal_count edges.measures ≤ length old → (e : ℕ) → e < portal_count edges.measures → keys ≡ keys_to (portal_graph (stored hall)) e
+      → Walked edges hall keys p old old p 0
   walk_begins p old l below room e le is =
-      let h = decode st in
+      let h = stored hall in
       let all : (portal_graph h).nodes ≡ portal_count edges.measures = sym (ap (λ (g : Graph). g.nodes) (graph_is k)) in
-      let fits = fits_of k.opened in
+      let fits = fits_of hall.opened in
       let ok : Settled (turned (portal_graph h)) e unlinked keys = rw is (keys_settled h fits e (omega arith)) in
       let counted = few_edges (portal_keyed h fits) ok (node_rank h) p (omega arith) below in
       let low : length (path (portal_graph h) (node_rank h) keys (get_or keys p 0) p) ≤ portal_count edges.measures = omega (arith, counted.0, counted.1) in
@@ -133,7 +133,7 @@ module _ {m : Measures} {st keys : List ℕ} {edges : Edges} (k : Linked m st ed
         tracing = subst (λ (g : Graph). Tracing g (node_rank h) e p keys old old p 0) (sym (graph_is k)) (tracing_none ok (portal_sound h fits) (omega arith) below (omega arith));
       }
 
-  module _ {p : ℕ} {old new : List ℕ} {u i : ℕ} (w : Walked edges st keys p old new u i) where
+  module _ {p : ℕ} {old new : List ℕ} {u i : ℕ} (w : Walked edges hall keys p old new u i) where
     pub walk_at : u < portal_count edges.measures
     walk_at = tracing_node w.tracing edges.sound w.inside
 
@@ -143,18 +143,18 @@ module _ {m : Measures} {st keys : List ℕ} {edges : Edges} (k : Linked m st ed
     pub walk_long : length new ≡ length old
     walk_long = omega (arith, ap length w.tracing.written, length-append w.tracing.passed (drop i old), length-drop i old, w.tracing.many, (tracing_room w.tracing).1, w.tracing.room)
 
-    pub walk_on : {v : ℕ} → (get_or keys u 0 ≡ 0 → ⊥) → v ≡ next (graph_of edges) (node_rank (decode st)) keys u (arc_count edges.measures) → Walked edges st keys p old (set new i u) v (i + 1)
+    pub walk_on : {v : ℕ} → (get_or keys u 0 ≡ 0 → ⊥) → v ≡ next (graph_of edges) (node_rank (stored hall)) keys u (arc_count edges.measures) → Walked edges hall keys p old (set new i u) v (i + 1)
     walk_on n e = rw e (record { goal = w.goal; inside = w.inside; start = w.start; few = w.few; tracing = tracing_more w.tracing w.start n })
 
     -- a portal follows on one that is not at the goal
-    pub walk_some : (get_or keys u 0 ≡ 0 → ⊥) → (r : Option ℕ) → unwrap_or r (portal_count edges.measures) ≡ next (graph_of edges) (node_rank (decode st)) keys u (arc_count edges.measures) → IsSome r
+    pub walk_some : (get_or keys u 0 ≡ 0 → ⊥) → (r : Option ℕ) → unwrap_or r (portal_count edges.measures) ≡ next (graph_of edges) (node_rank (stored hall)) keys u (arc_count edges.measures) → IsSome r
     walk_some n None e = let on = tracing_node (tracing_more w.tracing w.start n) edges.sound w.inside in absurd (omega (arith, e, on))
     walk_some n (Some v) e = refl
 
     pub walk_ends : get_or keys u 0 ≡ 0
-        → (i + 1 ≡ length (least_path (decode st) (portal_graph (decode st)) keys p)) × (set new i u ≡ least_path (decode st) (portal_graph (decode st)) keys p ++ drop (i + 1) old)
+        → (i + 1 ≡ length (least_path (stored hall) (portal_graph (stored hall)) keys p)) × (set new i u ≡ least_path (stored hall) (portal_graph (stored hall)) keys p ++ drop (i + 1) old)
     unfolding least_path
     walk_ends z =
         let x = tracing_over w.tracing z in
-        subst (λ (g : Graph). (i + 1 ≡ length (path g (node_rank (decode st)) keys (get_or keys p 0) p)) × (set new i u ≡ path g (node_rank (decode st)) keys (get_or keys p 0) p ++ drop (i + 1) old))
+        subst (λ (g : Graph). (i + 1 ≡ length (path g (node_rank (stored hall)) keys (get_or keys p 0) p)) × (set new i u ≡ path g (node_rank (stored hall)) keys (get_or keys p 0) p ++ drop (i + 1) old))
         (graph_is k) (x.1, x.0)

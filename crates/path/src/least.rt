@@ -6,15 +6,15 @@ ghost use Rattle.laws.specs.FirstPath.{better, closer, next};
 ghost use Rattle.model.specs.Windows.{border_cell};
 ghost use Rattle.model.specs.Portals.{portal_count, arc_count, arc_tail, is_portal, portal_graph};
 ghost use Rattle.model.specs.LeastPath.{unlinked, cell_rank, node_rank, keys_to, least_path};
-ghost use Rattle.model.specs.Store.{decode};
-ghost use Rattle.graph.specs.EdgeTable.{Opened};
+ghost use Rattle.store.specs.Stored.{stored};
 ghost use Rattle.graph.specs.Edges.{graph_of};
 ghost use Rattle.path.specs.Following.{Linked, Best};
 
 use fields::sectors::SECTOR_CELLS;
 use graph::portals::{SECTOR_PORTALS, head_of, portal_run, portal_sector, portal_side};
 use graph::table::Edges;
-use model::{Measures, Side};
+use model::Side;
+use store::opened::Opened;
 
 // The rank of the cell at a place of a side: by column, then row.
 fn border_rank(side: Side, place: usize) -> usize
@@ -30,41 +30,40 @@ fn border_rank(side: Side, place: usize) -> usize
 }
 
 // A portal's rank in PortalNode order: sector, first cell, last cell, boundary.
-fn node_rank(st: &[u8], m: Measures, p: usize) -> usize
-    requires { Opened m st.now × (is_portal (decode st.now) p ≡ true) }
-    ensures { result ≡ node_rank (decode st.now) p }
+fn node_rank(hall: &Opened<'_>, p: usize) -> usize
+    requires { is_portal (stored hall.now) p ≡ true }
+    ensures { result ≡ node_rank (stored hall.now) p }
 {
     let side = portal_side(p);
-    let run = portal_run(st, m, p);
+    let run = portal_run(hall, p);
     let first = border_rank(side, run.first);
     let last = border_rank(side, run.last);
     ((portal_sector(p) * SECTOR_CELLS + first) * SECTOR_CELLS + last) * 4 + side as usize
 }
 
 // Whether portal v comes before the best so far, if there is one.
-fn better(st: &[u8], m: Measures, v: usize, best: Option<usize>) -> bool
-    requires { Opened m st.now × (is_portal (decode st.now) v ≡ true) × Best st.now best }
-    ensures { (g : Graph) → ((p : ℕ) → is_portal (decode st.now) p ≡ true → p < g.nodes) → result ≡ better g (node_rank (decode st.now)) v (unwrap_or best g.nodes) }
+fn better(hall: &Opened<'_>, v: usize, best: Option<usize>) -> bool
+    requires { (is_portal (stored hall.now) v ≡ true) × Best hall.now best }
+    ensures { (g : Graph) → ((p : ℕ) → is_portal (stored hall.now) p ≡ true → p < g.nodes) → result ≡ better g (node_rank (stored hall.now)) v (unwrap_or best g.nodes) }
 {
     match best {
-        Some(best) => node_rank(st, m, v) < node_rank(st, m, best),
+        Some(best) => node_rank(hall, v) < node_rank(hall, best),
         None => true,
     }
 }
 
 // The best so far, or the head of arc a of portal u where a least path goes along it and it comes before.
 fn closer(
-    st: &[u8],
-    m: Measures,
+    hall: &Opened<'_>,
     edges: Edges,
     keys: &[u32],
     u: usize,
     a: usize,
     best: Option<usize>,
 ) -> Option<usize>
-    requires { Linked m st.now edges (length keys.now) × (a < arc_count edges.measures) × (u ≡ arc_tail a) × Best st.now best }
-    ensures is { let n = portal_count edges.entry.measures in unwrap_or result n ≡ closer (graph_of edges.entry) (node_rank (decode st.now)) keys.now u a (unwrap_or best n) }
-    ensures some { Best st.now result }
+    requires { Linked hall.now edges (length keys.now) × (a < arc_count edges.measures) × (u ≡ arc_tail a) × Best hall.now best }
+    ensures is { let n = portal_count edges.entry.measures in unwrap_or result n ≡ closer (graph_of edges.entry) (node_rank (stored hall.now)) keys.now u a (unwrap_or best n) }
+    ensures some { Best hall.now result }
 {
     let w = edges.weights[a];
     if w == 0 {
@@ -78,44 +77,43 @@ fn closer(
     if key - w != keys[v] {
         return best;
     }
-    if better(st, m, v, best) {
+    if better(hall, v, best) {
         return Some(v);
     }
     best
 }
 
 // The portal after u on the least path, if there is one.
-fn next_portal(st: &[u8], m: Measures, edges: Edges, keys: &[u32], u: usize) -> Option<usize>
-    requires { Linked m st.now edges (length keys.now) × (u < portal_count edges.measures) }
-    ensures { unwrap_or result (portal_count edges.entry.measures) ≡ next (graph_of edges.entry) (node_rank (decode st.now)) keys.now u (arc_count edges.entry.measures) }
+fn next_portal(hall: &Opened<'_>, edges: Edges, keys: &[u32], u: usize) -> Option<usize>
+    requires { Linked hall.now edges (length keys.now) × (u < portal_count edges.measures) }
+    ensures { unwrap_or result (portal_count edges.entry.measures) ≡ next (graph_of edges.entry) (node_rank (stored hall.now)) keys.now u (arc_count edges.entry.measures) }
 {
     let mut best = None;
     for a in u * SECTOR_PORTALS..u * SECTOR_PORTALS + SECTOR_PORTALS {
-        best = closer(st, m, edges, keys, u, a, best);
+        best = closer(hall, edges, keys, u, a, best);
     }
     best
 }
 
 // Writes the least path from portal p to the one whose keys are given, and returns how many portals it has.
 pub fn least_path(
-    st: &[u8],
-    m: Measures,
+    hall: &Opened<'_>,
     edges: Edges,
     keys: &[u32],
     p: usize,
     nodes: &mut [u16],
 ) -> usize
-    requires linked { Linked m st.now edges (length keys.now) × (p < portal_count edges.measures) × (get_or keys.now p 0 < unlinked) × (portal_count edges.measures ≤ length nodes.old) }
-    requires by_index { (e : ℕ) × (e < portal_count edges.measures) × (keys.now ≡ keys_to (portal_graph (decode st.now)) e) }
-    ensures count { result ≡ length (least_path (decode st.now) (portal_graph (decode st.now)) keys.now p) }
-    ensures portals { nodes.new ≡ least_path (decode st.now) (portal_graph (decode st.now)) keys.now p ++ drop result nodes.old }
+    requires linked { Linked hall.now edges (length keys.now) × (p < portal_count edges.measures) × (get_or keys.now p 0 < unlinked) × (portal_count edges.measures ≤ length nodes.old) }
+    requires by_index { (e : ℕ) × (e < portal_count edges.measures) × (keys.now ≡ keys_to (portal_graph (stored hall.now)) e) }
+    ensures count { result ≡ length (least_path (stored hall.now) (portal_graph (stored hall.now)) keys.now p) }
+    ensures portals { nodes.new ≡ least_path (stored hall.now) (portal_graph (stored hall.now)) keys.now p ++ drop result nodes.old }
 {
     let mut u = p;
     let mut i = 0;
     while keys[u] != 0 {
         nodes[i] = u as u16;
         i += 1;
-        u = next_portal(st, m, edges, keys, u).unwrap();
+        u = next_portal(hall, edges, keys, u).unwrap();
     }
     nodes[i] = u as u16;
     i + 1

@@ -5,13 +5,13 @@ ghost use Rattle.model.specs.Steps.{last_step, step_bytes, flat_steps};
 ghost use Rattle.model.specs.Portals.{is_portal};
 ghost use Rattle.model.specs.Route.{step_at, steps_of};
 ghost use Rattle.model.specs.Calls.{routed_steps};
-ghost use Rattle.model.specs.Store.{decode};
-ghost use Rattle.graph.specs.EdgeTable.{Opened};
+ghost use Rattle.store.specs.Stored.{stored};
 ghost use Rattle.path.specs.PortalPaths.{PortalPath};
 
 use fields::sectors::SECTOR_CELLS;
 use graph::portals::{midpoint, portal_sector, window_of_portal};
 use model::{Measures, RouteStep, Routed, SectorID};
+use store::opened::Opened;
 
 // How many steps an answer has.
 pub fn steps_of(answer: Routed) -> usize
@@ -44,13 +44,13 @@ fn sector_at(m: Measures, s: usize) -> SectorID
 }
 
 // The step at a portal: its midpoint and its window.
-fn step_at(st: &[u8], m: Measures, p: usize) -> RouteStep
-    requires { Opened m st.now × (is_portal (decode st.now) p ≡ true) }
-    ensures { result ≡ step_at (decode st.now) p }
+fn step_at(hall: &Opened<'_>, p: usize) -> RouteStep
+    requires { is_portal (stored hall.now) p ≡ true }
+    ensures { result ≡ step_at (stored hall.now) p }
 {
-    let sector = sector_at(m, portal_sector(p));
-    let goal = midpoint(st, m, p);
-    let w = window_of_portal(st, m, p);
+    let sector = sector_at(hall.store.measures, portal_sector(p));
+    let goal = midpoint(hall, p);
+    let w = window_of_portal(hall, p);
     RouteStep {
         column: sector.column,
         row: sector.row,
@@ -94,15 +94,15 @@ pub fn write_last(m: Measures, s: usize, goal: usize, list: &mut [u8])
 }
 
 // The steps of the path of the first n nodes, at the front of a list.
-pub fn write_steps(st: &[u8], m: Measures, nodes: &[u16], n: usize, goal: usize, list: &mut [u8])
-    requires { Opened m st.now × (n ≤ length nodes.now) × PortalPath (decode st.now) (take n nodes.now) × (6 * (n / 2 + 1) ≤ length list.old) }
-    ensures { list.new ≡ flat_steps (steps_of (decode st.now) goal true (take n nodes.now)) ++ drop (6 * (n / 2 + 1)) list.old }
+pub fn write_steps(hall: &Opened<'_>, nodes: &[u16], n: usize, goal: usize, list: &mut [u8])
+    requires { (n ≤ length nodes.now) × PortalPath (stored hall.now) (take n nodes.now) × (6 * (n / 2 + 1) ≤ length list.old) }
+    ensures { list.new ≡ flat_steps (steps_of (stored hall.now) goal true (take n nodes.now)) ++ drop (6 * (n / 2 + 1)) list.old }
 {
     let count = n / 2;
     for i in 0..count {
-        let step = step_at(st, m, usize::from(nodes[2 * i]));
+        let step = step_at(hall, usize::from(nodes[2 * i]));
         put_step(&mut list[6 * i..], step);
     }
     let last = portal_sector(usize::from(nodes[n - 1]));
-    write_last(m, last, goal, &mut list[6 * count..]);
+    write_last(hall.store.measures, last, goal, &mut list[6 * count..]);
 }

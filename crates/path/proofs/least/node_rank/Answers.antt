@@ -6,6 +6,7 @@ use Rattle.model.specs.Windows.{border_cell}
 use Rattle.model.specs.Sides.{side_low}
 use Rattle.model.specs.LeastPath.{cell_rank}
 use Rattle.fields.specs.Sides.{cast_is}
+use Rattle.store.specs.Stored.{stored}
 use Rattle.graph.specs.Reading.{accepted_of, portal_sector_lem}
 use Rattle.path.specs.Following.{rank_is}
 use Rattle.path.proofs.least.node_rank.Goals as goal
@@ -13,7 +14,7 @@ use Rattle.path.proofs.least.node_rank.Goals.{After-portal_sector}
 
 sector : (c : After-portal_sector) → c.portal_sector.result < 100
 sector c =
-    omega (arith, c.portal_sector.ensures, portal_sector_lem c.requires.0 c.args.p c.requires.1, (accepted_of c.requires.0).few_sectors)
+    omega (arith, c.portal_sector.ensures, portal_sector_lem c.args.hall.now.opened c.args.p c.requires, (accepted_of c.args.hall.now.opened).few_sectors)
 
 pub overflow_add-result-3 : goal.overflow_add-result-3
 overflow_add-result-3 c = omega (
@@ -28,7 +29,7 @@ overflow_add-result-3 c = omega (
 pub returns : goal.returns
 returns c =
     let side = c.portal_side-side in
-    rank_is c.args.st.now c.args.p side.ensures c.portal_sector.ensures
+    rank_is (stored c.args.hall.now) c.args.p side.ensures c.portal_sector.ensures
     (c.border_rank-first.ensures.0 ∙ ap (λ (i : ℕ). cell_rank (border_cell side.result i)) c.portal_run-run.ensures.begins)
     (c.border_rank-last.ensures.0 ∙ ap (λ (i : ℕ). cell_rank (border_cell side.result i)) c.portal_run-run.ensures.ends) (cast_is side.result)
 
