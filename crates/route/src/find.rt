@@ -3,8 +3,7 @@ ghost use Rattle.std.specs.Prelude.{◌≡◌, ◌*◌, ◌/◌, ◌≤◌, ◌<
 ghost use Rattle.model.specs.Sectors.{sectors, cells};
 ghost use Rattle.model.specs.Portals.{portal_count, arc_count, portal_graph};
 ghost use Rattle.model.specs.Route.{through_portals, route_of};
-ghost use Rattle.model.specs.Store.{decode};
-ghost use Rattle.graph.specs.EdgeTable.{Opened};
+ghost use Rattle.store.specs.Stored.{stored};
 ghost use Rattle.path.specs.Following.{Linked};
 ghost use Rattle.route.specs.Finding.{found_answer, found_into, last_route, Paired, pair_route};
 
@@ -18,6 +17,7 @@ use model::{Measures, Routed};
 use path::least::least_path;
 use path::steps::{step_count, write_last, write_steps};
 use search::keys::keys_to;
+use store::opened::Opened;
 
 // The route of one step, to a goal at these moves in the same sector.
 fn one_step(m: Measures, goal: usize, moves: u8, list: &mut [u8]) -> Routed
@@ -39,8 +39,7 @@ fn one_step(m: Measures, goal: usize, moves: u8, list: &mut [u8]) -> Routed
 
 // The route from portal p to portal e and from there to the goal, with its leg and its last moves.
 fn through_pair(
-    st: &[u8],
-    m: Measures,
+    hall: &Opened<'_>,
     edges: Edges,
     p: usize,
     e: usize,
@@ -50,13 +49,13 @@ fn through_pair(
     keys: &mut [u32],
     list: &mut [u8],
 ) -> Routed
-    requires { Linked m st.now edges (length keys.old) × Paired (decode st.now) p e }
-    ensures answer { result ≡ found_answer (pair_route (decode st.now) goal p e leg last) }
-    ensures steps { list.new ≡ found_into (pair_route (decode st.now) goal p e leg last) list.old }
+    requires { Linked hall.now edges (length keys.old) × Paired (stored hall.now) p e }
+    ensures answer { result ≡ found_answer (pair_route (stored hall.now) goal p e leg last) }
+    ensures steps { list.new ≡ found_into (pair_route (stored hall.now) goal p e leg last) list.old }
 {
     keys_to(edges, e, keys);
     let mut nodes = [0u16; HALL_PORTALS];
-    let n = least_path(st, m, edges, keys, p, &mut nodes);
+    let n = least_path(hall, edges, keys, p, &mut nodes);
     let steps = step_count(n);
     let found = Routed::Route {
         steps: steps as u32,
@@ -66,35 +65,33 @@ fn through_pair(
     if list.len() / 6 < steps {
         return found;
     }
-    write_steps(st, m, &nodes, n, goal, list);
+    write_steps(hall, &nodes, n, goal, list);
     found
 }
 
 // The route over portals, in a lent table of weights and a lent list of keys.
 fn through_lists(
-    st: &[u8],
-    m: Measures,
+    hall: &Opened<'_>,
     source: usize,
     goal: usize,
     table: &mut [u32],
     keys: &mut [u32],
     list: &mut [u8],
 ) -> Routed
-    requires { Opened m st.now × (source < cells m) × (goal < cells m) × (length table.old ≡ arc_count m) × (length keys.old ≡ portal_count m) }
-    ensures answer { result ≡ found_answer (through_portals (decode st.now) (portal_graph (decode st.now)) source goal) }
-    ensures steps { list.new ≡ found_into (through_portals (decode st.now) (portal_graph (decode st.now)) source goal) list.old }
+    requires { (source < cells hall.now.store.measures) × (goal < cells hall.now.store.measures) × (length table.old ≡ arc_count hall.now.store.measures) × (length keys.old ≡ portal_count hall.now.store.measures) }
+    ensures answer { result ≡ found_answer (through_portals (stored hall.now) (portal_graph (stored hall.now)) source goal) }
+    ensures steps { list.new ≡ found_into (through_portals (stored hall.now) (portal_graph (stored hall.now)) source goal) list.old }
 {
-    let legs = portal_moves(st, m, source);
-    let lasts = portal_moves(st, m, goal);
-    let edges = Edges::of_store(st, m, table);
+    let legs = portal_moves(hall, source);
+    let lasts = portal_moves(hall, goal);
+    let edges = Edges::of_store(hall, table);
     let p = source / SECTOR_CELLS * SECTOR_PORTALS;
     let q = goal / SECTOR_CELLS * SECTOR_PORTALS;
     let Some(pair) = choose_pair(edges, p, q, &legs, &lasts, keys) else {
         return Routed::NoRoute;
     };
     through_pair(
-        st,
-        m,
+        hall,
         edges,
         p + pair.start,
         q + pair.end,
@@ -107,18 +104,17 @@ fn through_lists(
 }
 
 // The same in lists of its own.
-fn through_portals(st: &[u8], m: Measures, source: usize, goal: usize, list: &mut [u8]) -> Routed
-    requires { Opened m st.now × (source < cells m) × (goal < cells m) }
-    ensures answer { result ≡ found_answer (through_portals (decode st.now) (portal_graph (decode st.now)) source goal) }
-    ensures steps { list.new ≡ found_into (through_portals (decode st.now) (portal_graph (decode st.now)) source goal) list.old }
+fn through_portals(hall: &Opened<'_>, source: usize, goal: usize, list: &mut [u8]) -> Routed
+    requires { (source < cells hall.now.store.measures) × (goal < cells hall.now.store.measures) }
+    ensures answer { result ≡ found_answer (through_portals (stored hall.now) (portal_graph (stored hall.now)) source goal) }
+    ensures steps { list.new ≡ found_into (through_portals (stored hall.now) (portal_graph (stored hall.now)) source goal) list.old }
 {
     let mut table = [0u32; HALL_ARCS];
     let mut keys = [0u32; HALL_PORTALS];
-    let arcs = sectors(m) * SECTOR_ARCS;
-    let numbers = sectors(m) * SECTOR_PORTALS;
+    let arcs = sectors(hall.store.measures) * SECTOR_ARCS;
+    let numbers = sectors(hall.store.measures) * SECTOR_PORTALS;
     through_lists(
-        st,
-        m,
+        hall,
         source,
         goal,
         &mut table[..arcs],
@@ -128,13 +124,13 @@ fn through_portals(st: &[u8], m: Measures, source: usize, goal: usize, list: &mu
 }
 
 // The route from one cell to another, its steps at the front of a list.
-pub fn find_path(st: &[u8], m: Measures, source: usize, goal: usize, list: &mut [u8]) -> Routed
-    requires { Opened m st.now × (source < cells m) × (goal < cells m) }
-    ensures answer { result ≡ found_answer (route_of (decode st.now) source goal) }
-    ensures steps { list.new ≡ found_into (route_of (decode st.now) source goal) list.old }
+pub fn find_path(hall: &Opened<'_>, source: usize, goal: usize, list: &mut [u8]) -> Routed
+    requires { (source < cells hall.now.store.measures) × (goal < cells hall.now.store.measures) }
+    ensures answer { result ≡ found_answer (route_of (stored hall.now) source goal) }
+    ensures steps { list.new ≡ found_into (route_of (stored hall.now) source goal) list.old }
 {
-    match moves_to(st, m, source, goal) {
-        Some(moves) => one_step(m, goal, moves, list),
-        None => through_portals(st, m, source, goal, list),
+    match moves_to(hall, source, goal) {
+        Some(moves) => one_step(hall.store.measures, goal, moves, list),
+        None => through_portals(hall, source, goal, list),
     }
 }

@@ -1,5 +1,4 @@
 -- `find_path` takes the one step where the goal is joined to the source, and else a pair of portals.
-use native.Mathlib.Omega.{arith}
 use mathlib.Core.Path.{sym, ap, ◌∙◌}
 use Rattle.model.specs.declared.Measures.{Measures}
 use Rattle.model.specs.Route.{Found}
@@ -16,5 +15,5 @@ returns-in-None c =
 pub returns-in-Some : goal.returns-in-Some
 returns-in-Some c =
     let call = c.one_step in
-    let e = ap (λ (m : Measures). last_route m c.args.goal c.in-Some.moves) (sym (measures_are c.requires.0)) ∙ joined_found _ _ _ c.in-Some.ensures in
+    let e = ap (λ (m : Measures). last_route m c.args.goal c.in-Some.moves) (sym (measures_are c.args.hall.now.opened)) ∙ joined_found _ _ _ c.in-Some.ensures in
     record { answer = call.ensures.answer ∙ ap found_answer e; steps = call.ensures.steps ∙ ap (λ (x : Found). found_into x c.args.list.now) e }

@@ -2,17 +2,17 @@
 use borrow.Author.Rules.{rules}
 use native.Mathlib.Omega.{arith}
 use Prim.Native.Nat.{ℕ, ◌+◌, ◌*◌, ◌/◌, ◌%◌, ◌<◌}
-use mathlib.Core.Path.{◌≡◌, sym, ap, subst, ◌∙◌, refl}
+use mathlib.Core.Path.{◌≡◌, sym, ap, ◌∙◌, refl}
 use mathlib.Core.List.{List}
 use lib.ListN.{length, get_or}
 use Rattle.laws.specs.FirstLeast.{Foremost}
 use Rattle.model.specs.declared.Measures.{Measures}
 use Rattle.model.specs.Sectors.{sectors, sector_of}
 use Rattle.model.specs.Portals.{sector_portals, place_portal, portal_count, portal_graph}
-use Rattle.model.specs.Halls.{Hall}
 use Rattle.model.specs.LeastPath.{unlinked}
 use Rattle.model.specs.Route.{Found, through_portals}
-use Rattle.model.specs.Store.{decode}
+use Rattle.store.specs.declared.opened.Opened.{Opened}
+use Rattle.store.specs.Stored.{stored}
 use Rattle.graph.specs.Reading.{fits_of, measures_are}
 use Rattle.graph.specs.Edges.{graph_of}
 use Rattle.graph.specs.declared.table.Edges.{Edges}
@@ -25,12 +25,12 @@ use Rattle.route.proofs.find.through_lists.Goals as goal
 use Rattle.route.proofs.find.through_lists.Goals.{After-of_store-edges}
 
 -- ---- what the choice by the table and the near portals as they were read is in the hall
-module _ {m : Measures} {st : List ℕ} {edges : Edges} {keys : ℕ} (k : Linked m st edges keys) (source goal : ℕ) {legs lasts : List ℕ}
-    (legs_are : legs ≡ portal_moves (decode st) source) (lasts_are : lasts ≡ portal_moves (decode st) goal) where
+module _ {hall : Opened} {edges : Edges} {keys : ℕ} (k : Linked hall edges keys) (source goal : ℕ) {legs lasts : List ℕ}
+    (legs_are : legs ≡ portal_moves (stored hall) source) (lasts_are : lasts ≡ portal_moves (stored hall) goal) where
   abbrev First : ℕ → Type 0
   First = Foremost (pair_run (graph_of edges) legs lasts (sector_of source * sector_portals) (sector_of goal * sector_portals)) unlinked sector_pairs
 
-  foremost : {r : ℕ} → First r → Foremost (run_at (decode st) source goal) unlinked sector_pairs r
+  foremost : {r : ℕ} → First r → Foremost (run_at (stored hall) source goal) unlinked sector_pairs r
   foremost f = rw (graph_is k, legs_are, lasts_are) at f
 
   module _ (pair : Pair) (f : First (pair.start * sector_portals + pair.end)) where
@@ -43,45 +43,44 @@ module _ {m : Measures} {st : List ℕ} {edges : Edges} {keys : ℕ} (k : Linked
     end_is : number % sector_portals ≡ pair.end
     end_is = omega (arith, pair.end_low)
 
-    chosen : Chosen (decode st) source goal number
-    chosen = chosen_some (decode st) source goal (fits_of k.opened) (foremost f) (omega (arith, pair.start_low, pair.end_low))
+    chosen : Chosen (stored hall) source goal number
+    chosen = chosen_some (stored hall) source goal (fits_of hall.opened) (foremost f) (omega (arith, pair.start_low, pair.end_low))
 
     -- the route over it, with leg and last moves as they were read
-    found_is : through_portals (decode st) (portal_graph (decode st)) source goal
-        ≡ pair_route (decode st) goal (place_portal (sector_of source) pair.start) (place_portal (sector_of goal) pair.end) (get_or legs pair.start 0) (get_or lasts pair.end 0)
-    found_is = rw (legs_are, lasts_are) (rw (start_is, end_is) at (pair_found (decode st) (fits_of k.opened) source goal chosen))
+    found_is : through_portals (stored hall) (portal_graph (stored hall)) source goal
+        ≡ pair_route (stored hall) goal (place_portal (sector_of source) pair.start) (place_portal (sector_of goal) pair.end) (get_or legs pair.start 0) (get_or lasts pair.end 0)
+    found_is = rw (legs_are, lasts_are) (rw (start_is, end_is) at (pair_found (stored hall) (fits_of hall.opened) source goal chosen))
 
-    paired : sector_of goal < sectors m → Paired (decode st) (place_portal (sector_of source) pair.start) (place_portal (sector_of goal) pair.end)
-    paired l = rw (start_is, end_is) at (pair_paired (decode st) (fits_of k.opened) source goal chosen (rw (measures_are k.opened) l))
+    paired : sector_of goal < sectors hall.store.measures → Paired (stored hall) (place_portal (sector_of source) pair.start) (place_portal (sector_of goal) pair.end)
+    paired l = rw (start_is, end_is) at (pair_paired (stored hall) (fits_of hall.opened) source goal chosen (rw (measures_are hall.opened) l))
 
 module _ (c : After-of_store-edges) where
-  counted : portal_count c.of_store-edges.result.measures ≡ portal_count c.args.m
+  counted : portal_count c.of_store-edges.result.measures ≡ portal_count c.args.hall.now.store.measures
   counted = ap (λ (m : Measures). portal_count m) c.of_store-edges.ensures.measures
 
-  linked : {keys : ℕ} → keys ≡ length c.args.keys.now → Linked c.args.m c.args.st.now c.of_store-edges.result keys
+  linked : {keys : ℕ} → keys ≡ length c.args.keys.now → Linked c.args.hall.now c.of_store-edges.result keys
   linked same = record {
-    opened = c.requires.0;
     measured = c.of_store-edges.ensures.measures;
     filled = c.of_store-edges.ensures.weights;
-    numbers = same ∙ c.requires.4 ∙ sym counted;
+    numbers = same ∙ c.requires.3 ∙ sym counted;
   }
 
 pub choose_pair-requires : goal.choose_pair-requires
 choose_pair-requires c =
     let same = counted (goal.at.choose_pair-requires c).After-of_store-edges in
-    record { lists = (c.requires.4 ∙ sym same, search rules, search rules); inside = (omega (arith, same, c.requires.1), omega (arith, same, c.requires.2)) }
+    record { lists = (c.requires.3 ∙ sym same, search rules, search rules); inside = (omega (arith, same, c.requires.0), omega (arith, same, c.requires.1)) }
 
 pub returns-in_default : goal.returns-in_default
 returns-in_default c =
     let link = linked (goal.at.returns-in_default c).After-of_store-edges refl in
     let none = foremost link c.args.source c.args.goal c.portal_moves-legs.ensures c.portal_moves-lasts.ensures c.in_default.ensures in
-    let both = none_found _ _ _ _ (chosen_none (decode c.args.st.now) c.args.source c.args.goal (fits_of c.requires.0) none (omega arith)) in
+    let both = none_found _ _ _ _ (chosen_none (stored c.args.hall.now) c.args.source c.args.goal (fits_of c.args.hall.now.opened) none (omega arith)) in
     record { answer = both.0; steps = both.1 }
 
 pub through_pair-requires : goal.through_pair-requires
 through_pair-requires c =
     let link = linked (goal.at.through_pair-requires c).After-of_store-edges c.choose_pair.auto.keys in
-    (link, paired link c.args.source c.args.goal c.portal_moves-legs.ensures c.portal_moves-lasts.ensures c.in-Some.pair c.in-Some.ensures (omega (arith, c.requires.2)))
+    (link, paired link c.args.source c.args.goal c.portal_moves-legs.ensures c.portal_moves-lasts.ensures c.in-Some.pair c.in-Some.ensures (omega (arith, c.requires.1)))
 
 pub returns : goal.returns
 returns c =

@@ -4,13 +4,11 @@ use Prim.Native.Nat.{◌<◌, ◌≤◌}
 use mathlib.Core.Path.{◌≡◌, sym, ap, ◌∙◌}
 use lib.ListN.{length}
 use Rattle.laws.specs.Graph.{Graph}
-use Rattle.model.specs.Sectors.{sectors}
 use Rattle.model.specs.Portals.{hall_portals, portal_count, portal_graph}
 use Rattle.model.specs.LeastPath.{keys_to}
 use Rattle.model.specs.PortalCrossings.{Fits}
-use Rattle.model.specs.Store.{decode}
-use Rattle.model.specs.PortalNumbers.{portal_is}
-use Rattle.graph.specs.Reading.{accepted_of, fits_of, measures_are}
+use Rattle.store.specs.Stored.{stored}
+use Rattle.graph.specs.Reading.{fits_of, measures_are}
 use Rattle.path.specs.Following.{Linked, graph_is, portal_inside}
 use Rattle.route.specs.Finding.{taken_few, taken_path, pair_no_room, pair_written}
 use Rattle.route.proofs.find.through_pair.Goals as goal
@@ -20,22 +18,22 @@ start_low : (s : Start) → s.args.p < portal_count s.args.edges.measures
 start_low s = portal_inside s.requires.0 s.args.p s.requires.1.start
 
 end_low : (s : Start) → s.args.e < portal_count s.args.edges.measures
-end_low s = omega (arith, s.requires.1.end, ap portal_count (s.requires.0.measured ∙ sym (measures_are s.requires.0.opened)))
+end_low s = omega (arith, s.requires.1.end, ap portal_count (s.requires.0.measured ∙ sym (measures_are s.args.hall.now.opened)))
 
-fits : (s : Start) → Fits (decode s.args.st.now)
-fits s = fits_of s.requires.0.opened
+fits : (s : Start) → Fits (stored s.args.hall.now)
+fits s = fits_of s.args.hall.now.opened
 
 -- the keys are those to the end portal
-keys_are : (c : After-keys_to) → c.keys_to.new.keys ≡ keys_to (portal_graph (decode c.args.st.now)) c.args.e
+keys_are : (c : After-keys_to) → c.keys_to.new.keys ≡ keys_to (portal_graph (stored c.args.hall.now)) c.args.e
 keys_are c = c.keys_to.ensures ∙ ap (λ (g : Graph). keys_to g c.args.e) (graph_is c.requires.0)
 
-linked : (c : After-keys_to) → Linked c.args.m c.args.st.now c.args.edges (length c.keys_to.new.keys)
-linked c = record { opened = c.requires.0.opened; measured = c.requires.0.measured; filled = c.requires.0.filled; numbers = c.keys_to.auto.keys ∙ c.requires.0.numbers }
+linked : (c : After-keys_to) → Linked c.args.hall.now c.args.edges (length c.keys_to.new.keys)
+linked c = record { measured = c.requires.0.measured; filled = c.requires.0.filled; numbers = c.keys_to.auto.keys ∙ c.requires.0.numbers }
 
 -- the path fits the list of portals
 few_portals : (l : After-least_path-n) → (l.least_path-n.result ≤ length l.least_path-n.new.nodes) × (length l.least_path-n.new.nodes ≡ hall_portals)
 few_portals l = let s = l in (
-  taken_few _ (fits_of s.requires.0.opened) s.requires.1 _ _ _ (l.keys_to.ensures ∙ ap (λ (g : Graph). keys_to g l.args.e) (graph_is l.requires.0)) l.least_path-n.ensures.count l.least_path-n.ensures.portals l.least_path-n.auto.nodes,
+  taken_few _ (fits_of s.args.hall.now.opened) s.requires.1 _ _ _ (l.keys_to.ensures ∙ ap (λ (g : Graph). keys_to g l.args.e) (graph_is l.requires.0)) l.least_path-n.ensures.count l.least_path-n.ensures.portals l.least_path-n.auto.nodes,
   l.least_path-n.auto.nodes,
 )
 
@@ -61,7 +59,6 @@ returns-then-list-steps c =
 
 pub write_steps-requires : goal.write_steps-requires
 write_steps-requires c = (
-  c.requires.0.opened,
   (few_portals (goal.at.write_steps-requires c).After-least_path-n).0,
   taken_path _ (fits (goal.at.write_steps-requires c).Start) c.requires.1 _ _ _ (keys_are (goal.at.write_steps-requires c).After-keys_to) c.least_path-n.ensures.count c.least_path-n.ensures.portals,
   omega (arith, c.step_count-steps.ensures, c.if-list-steps.false),
