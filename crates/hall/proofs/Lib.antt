@@ -1,4 +1,3 @@
-pub mod Passed
 pub mod Building
 pub mod Changing
 pub mod Listed

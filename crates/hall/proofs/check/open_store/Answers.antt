@@ -1,14 +1,22 @@
 -- `open_store` climbs the ladder of the store check: each return goes by what the tests before it found, and at the end all are passed.
-use Rattle.std.proofs.Common.{◌≡◌, sym, arith}
+use Rattle.std.proofs.Common.{◌≡◌, ◌<◌, ◌≤◌, ℕ, true, false, List, ltb, sym, arith}
 use borrow.Author.Tests.{lt-ltb, le-ltb, ltb-false}
 use Rattle.laws.specs.Ladder.{refuse_here, refuse_past, flag}
 use Rattle.model.specs.Accepted.{accepted}
+use Rattle.model.specs.Store.{fourth_at}
 use Rattle.model.specs.Calls.{check_number}
 use Rattle.model.specs.Checked.{checked}
 use Rattle.store.specs.Checks.{sectors_found, scale_found, room_found, marks_found}
-use Rattle.hall.proofs.Passed.{fourth_bad, fourth_good}
 use borrow.Author.Rules.{rules}
 use Rattle.hall.proofs.check.open_store.Goals as goal
+
+-- what the test of the fourth byte found
+module _ (st : List ℕ) (r : ℕ) (is : r ≡ fourth_at st) where
+  fourth_bad : 0 < r → ltb 0 (fourth_at st) ≡ true
+  fourth_bad h = lt-ltb 0 (fourth_at st) (omega arith)
+
+  fourth_good : r ≤ 0 → ltb 0 (fourth_at st) ≡ false
+  fourth_good h = le-ltb 0 (fourth_at st) (omega arith)
 
 pub returns-then-st-lt4-clause-refused : goal.returns-then-st-lt4-clause-refused
 unfolding check_number
