@@ -1,4 +1,5 @@
 -- `next_line` writes `cut`, or the line of the pair at its place.
+use mathlib.Core.Path.{◌∙◌}
 use Rattle.hallroute.proofs.Printing.{cut_line, pair_line_lem}
 use Rattle.hallroute.proofs.lines.next_line.Goals as goal
 
@@ -9,6 +10,6 @@ returns-then-pairs-at-lt4 c =
 
 pub returns : goal.returns
 returns c =
-    let both = pair_line_lem _ _ _ _ c.if-pairs-at-lt4.false c.u16_at.ensures c.u16_at-2.ensures c.pair_line.ensures.size.0 c.pair_line.ensures.size.1
+    let both = pair_line_lem _ _ _ _ c.if-pairs-at-lt4.false (c.from-source.ensures ∙ c.u16_at.ensures) (c.from-goal.ensures ∙ c.u16_at-2.ensures) c.pair_line.ensures.size.0 c.pair_line.ensures.size.1
     c.pair_line.ensures.written in
     record { size = both.0; written = both.1 }
