@@ -1,6 +1,5 @@
 -- `scale_costfield` is the run over the cells of a sector.
 use Rattle.laws.specs.Fold.{counting}
-use Rattle.model.specs.Scaling.{scale_sector}
 use borrow.Author.Rules.{rules}
 use Rattle.sector_cost.proofs.scale_costfield.Goals as goal
 
@@ -9,7 +8,3 @@ loop-index-init c = (search (rules, counting), search rules)
 
 pub loop-index-preserved : goal.loop-index-preserved
 loop-index-preserved c = (search (rules, counting), search rules)
-
-pub returns : goal.returns
-unfolding scale_sector
-returns c = record { list = search (rules, counting); shown = c.loop-index.invariant.1.shows }
