@@ -1,6 +1,6 @@
 -- `least_path` writes the least path. The loop's invariant is `Walked`.
 use native.Mathlib.Omega.{arith}
-use Prim.Native.Nat.{◌≤◌, ◌<◌}
+use Prim.Native.Nat.{◌<◌}
 use lib.ListN.{length}
 use Rattle.model.specs.Portals.{portal_count}
 use Rattle.path.specs.Following.{walk_begins, walk_at, walk_room, walk_on, walk_some, walk_ends}

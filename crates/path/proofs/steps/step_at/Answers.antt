@@ -1,6 +1,6 @@
 -- `step_at` puts a portal's sector, midpoint and window into one step.
 use native.Mathlib.Omega.{arith}
-use mathlib.Core.Path.{◌≡◌, ◌∙◌}
+use mathlib.Core.Path.{◌≡◌}
 use Prim.Native.Nat.{ℕ}
 use Rattle.model.specs.declared.Measures.{Measures}
 use Rattle.model.specs.declared.SectorID.{SectorID}

@@ -1,14 +1,13 @@
 -- `through_lists` chooses a pair and takes the route over it.
 use native.Mathlib.Omega.{arith}
 use Prim.Native.Nat.{ℕ, ◌+◌, ◌*◌, ◌/◌, ◌%◌, ◌<◌}
-use mathlib.Core.Path.{◌≡◌, sym, ap, subst, ◌∙◌, refl}
+use mathlib.Core.Path.{◌≡◌, sym, ap, ◌∙◌, refl}
 use mathlib.Core.List.{List}
 use lib.ListN.{length, get_or}
 use Rattle.laws.specs.FirstLeast.{Foremost}
 use Rattle.model.specs.declared.Measures.{Measures}
 use Rattle.model.specs.Sectors.{sectors, sector_of}
 use Rattle.model.specs.Portals.{sector_portals, place_portal, portal_count, portal_graph}
-use Rattle.model.specs.Halls.{Hall}
 use Rattle.model.specs.LeastPath.{unlinked}
 use Rattle.model.specs.Route.{Found, through_portals}
 use Rattle.model.specs.Store.{decode}
@@ -64,11 +63,6 @@ module _ (c : After-of_store-edges) where
     filled = c.of_store-edges.ensures.weights;
     numbers = same ∙ c.requires.4 ∙ sym counted;
   }
-
-pub choose_pair-requires : goal.choose_pair-requires
-choose_pair-requires c =
-    let same = counted (goal.at.choose_pair-requires c).After-of_store-edges in
-    record { lists = (c.requires.4 ∙ sym same, c.portal_moves.auto.near, c.portal_moves-2.auto.near); inside = (omega (arith, same, c.requires.1), omega (arith, same, c.requires.2)) }
 
 pub returns-in_default : goal.returns-in_default
 returns-in_default c =

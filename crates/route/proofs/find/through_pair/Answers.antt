@@ -4,13 +4,11 @@ use Prim.Native.Nat.{◌<◌, ◌≤◌}
 use mathlib.Core.Path.{◌≡◌, sym, ap, ◌∙◌}
 use lib.ListN.{length}
 use Rattle.laws.specs.Graph.{Graph}
-use Rattle.model.specs.Sectors.{sectors}
 use Rattle.model.specs.Portals.{hall_portals, portal_count, portal_graph}
 use Rattle.model.specs.LeastPath.{keys_to}
 use Rattle.model.specs.PortalCrossings.{Fits}
 use Rattle.model.specs.Store.{decode}
-use Rattle.model.specs.PortalNumbers.{portal_is}
-use Rattle.graph.specs.Reading.{accepted_of, fits_of, measures_are}
+use Rattle.graph.specs.Reading.{fits_of, measures_are}
 use Rattle.path.specs.Following.{Linked, graph_is, portal_inside}
 use Rattle.route.specs.Finding.{taken_few, taken_path, pair_no_room, pair_written}
 use Rattle.route.proofs.find.through_pair.Goals as goal
