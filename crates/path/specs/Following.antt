@@ -3,7 +3,7 @@ use Rattle.std.specs.Prelude.{ℕ, ◌+◌, ◌-◌, ◌*◌, ◌≤◌, ◌<◌
 use Rattle.std.specs.Option.{unwrap_or}
 use native.Mathlib.Omega.{arith}
 use Rattle.std.proofs.Math.Path.{sym, subst}
-use Rattle.std.proofs.Common.{ap, ◌∙◌, length-append, length-drop, eq-eqb, ne_eqb}
+use Rattle.std.proofs.Common.{ap, ◌∙◌, eq-eqb, ne_eqb}
 use Rattle.std.proofs.lemmas.Bool.{false≢true}
 use Rattle.std.proofs.Math.ListN.{length, drop}
 use Rattle.laws.specs.Graph.{Graph, Settled, turned}
@@ -139,9 +139,6 @@ module _ {hall : Opened} {keys : List ℕ} {edges : Edges} (k : Linked hall edge
 
     pub walk_room : (i < length new) × (i < portal_count edges.measures)
     walk_room = ((tracing_room w.tracing).0, omega (arith, (tracing_room w.tracing).1, w.few))
-
-    pub walk_long : length new ≡ length old
-    walk_long = omega (arith, ap length w.tracing.written, length-append w.tracing.passed (drop i old), length-drop i old, w.tracing.many, (tracing_room w.tracing).1, w.tracing.room)
 
     pub walk_on : {v : ℕ} → (get_or keys u 0 ≡ 0 → ⊥) → v ≡ next (graph_of edges) (node_rank (stored hall)) keys u (arc_count edges.measures) → Walked edges hall keys p old (set new i u) v (i + 1)
     walk_on n e = rw e (record { goal = w.goal; inside = w.inside; start = w.start; few = w.few; tracing = tracing_more w.tracing w.start n })

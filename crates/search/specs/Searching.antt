@@ -1,15 +1,14 @@
 -- What a search over a table of weights is given, and one arc of it as code takes it.
-use Rattle.std.specs.Prelude.{ℕ, ◌+◌, ◌≤◌, ◌<◌, ◌≡◌, refl, List, length, set}
+use Rattle.std.specs.Prelude.{ℕ, ◌+◌, ◌≤◌, ◌<◌, ◌≡◌, refl, List, set}
 use Rattle.std.proofs.Common.{arith, ◌∙◌}
 use Rattle.std.proofs.Math.Path.{ap}
 use Rattle.std.proofs.Math.ListN.{get_or}
-use Rattle.laws.specs.Graph.{Sound}
 use Rattle.laws.specs.Relaxing.{relaxed}
 use Rattle.laws.specs.Offers.{offered, not_offered}
 use Rattle.laws.specs.Waiting.{awaited}
 use Rattle.laws.specs.Turns.{Searchable}
 use Rattle.model.specs.declared.Measures.{Measures}
-use Rattle.model.specs.Portals.{portal_count, arc_count, arc_tail, arc_place, head_of}
+use Rattle.model.specs.Portals.{portal_count, arc_tail, arc_place, head_of}
 use Rattle.graph.specs.EdgeTable.{bare, table_graph}
 use Rattle.graph.specs.Edges.{graph_of}
 use Rattle.graph.specs.declared.table.Edges.{Edges}
@@ -32,9 +31,6 @@ module _ (m : Measures) (table d p : List ℕ) (a u : ℕ) (from : u ≡ arc_tai
   module _ (v : ℕ) (to : v ≡ head_of (bare m) u (arc_place a)) where
     head_is : v ≡ head_of (bare m) (arc_tail a) (arc_place a)
     head_is = to ∙ ap (λ (x : ℕ). head_of (bare m) x (arc_place a)) from
-
-    pub arrives : Sound (table_graph m table) → a < arc_count m → 0 < get_or table a 0 → v < portal_count m
-    arrives sound l pos = rw head_is (sound.head_in a l pos)
 
     pub declines : get_or d v 0 ≤ get_or d u 0 + get_or table a 0 → (d ≡ relaxed (table_graph m table) d a) × (p ≡ awaited (table_graph m table) d p a)
     unfolding awaited

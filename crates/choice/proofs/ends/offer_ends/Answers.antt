@@ -1,10 +1,9 @@
 -- `offer_ends` tries each end once. The loop's invariant: the goal's arcs before place k are taken.
 use native.Mathlib.Omega.{arith}
-use mathlib.Core.Path.{◌∙◌, subst}
-use Prim.Native.Nat.{ℕ}
+use mathlib.Core.Path.{◌∙◌}
 use Rattle.laws.specs.Starts.{starts_more}
 use Rattle.model.specs.Portals.{sector_portals}
-use Rattle.choice.specs.Ends.{end_at, end_cost, EndsBegun}
+use Rattle.choice.specs.Ends.{end_at, end_cost}
 use Rattle.choice.proofs.ends.offer_ends.Goals as goal
 
 pub loop-k-preserved : goal.loop-k-preserved
@@ -13,6 +12,3 @@ loop-k-preserved c =
     starts_more g sector_portals (end_at c.args.q) (end_cost c.args.lasts.now) sound (λ j l. omega arith) c.loop-k.keys c.loop-k.wait (c.loop-k.auto.keys ∙ numbers) (c.loop-k.auto.wait
     ∙ c.requires.1
     ∙ numbers) c.loop-k.k (omega arith) c.offer_end.ensures (c.loop-k.invariant g sound numbers b)
-
-pub returns : goal.returns
-returns c = λ g sound numbers b. subst (λ (k : ℕ). EndsBegun g c.args.q c.args.lasts.now k c.loop-k.keys c.loop-k.wait) (omega arith) (c.loop-k.invariant g sound numbers b)

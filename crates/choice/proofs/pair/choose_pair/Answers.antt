@@ -1,6 +1,6 @@
 -- `choose_pair` takes the first start, then the first end from it.
 use native.Mathlib.Omega.{arith}
-use mathlib.Core.Path.{◌≡◌, ◌∙◌}
+use mathlib.Core.Path.{◌≡◌}
 use Prim.Native.Nat.{ℕ, ◌<◌}
 use mathlib.Core.List.{List}
 use lib.ListN.{get_or, replicate, get_or-replicate}
@@ -27,12 +27,6 @@ returns-in_err-end c =
     let low : sector_portals < sector_portals = some_end edges.sound edges.both_ways c.args.p c.args.q c.requires.inside.0 c.requires.inside.1 c.args.legs.now c.args.lasts.now zeros zero_at
     c.keys_to_goal.new.keys c.keys_to_goal.ensures c.in_ok-start.ensures.first c.in_ok-start.ensures.low c.keys_to.new.keys c.keys_to.ensures c.in_err-end.ensures.first in
     absurd (omega arith)
-
-pub keys_to-requires : goal.keys_to-requires
-keys_to-requires c = (c.keys_to_goal.auto.keys ∙ c.requires.lists.0, omega (arith, c.in_ok-start.ensures.low))
-
-pub invariant_of-result : goal.invariant_of-result
-invariant_of-result c = record { start_low = c.in_ok-start.ensures.low; end_low = c.in_ok-end.ensures.low }
 
 pub returns : goal.returns
 returns c =

@@ -22,12 +22,6 @@ returns-then-w-eq0-clause-is c = passes_by c.args.edges _ _ _ _ _ c.requires.2 c
 pub returns-then-key-w-clause-is : goal.returns-then-key-w-clause-is
 returns-then-key-w-clause-is c = too_short c.args.edges _ _ _ _ _ c.requires.2 c.if-key-w.true
 
-pub offset_bounds-keys-v : goal.offset_bounds-keys-v
-offset_bounds-keys-v c = omega (arith, inside c, c.args.edges.few)
-
-pub bounds-keys-v : goal.bounds-keys-v
-bounds-keys-v c = omega (arith, inside (goal.at.bounds-keys-v c).After-head_of-v, c.requires.0.numbers)
-
 pub returns-then-key-w-2-clause-is : goal.returns-then-key-w-2-clause-is
 returns-then-key-w-2-clause-is c = not_exact c.args.edges _ _ _ _ _ c.requires.2 _ c.head_of-v.ensures (λ q. c.if-key-w-2.true (omega arith))
 

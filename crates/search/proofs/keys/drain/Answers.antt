@@ -1,5 +1,4 @@
 -- `drain` serves the numbers of the queue. The loop's invariant: all is as it was, or the work has fallen; the first number does wait.
-use native.Mathlib.Omega.{arith}
 use native.Mathlib.Nat.{lt_of_le_of_lt}
 use mathlib.Core.Path.{◌≡◌, ap, ◌∙◌}
 use mathlib.Core.Logic.{inr, ⊎_elim}

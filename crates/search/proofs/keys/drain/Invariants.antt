@@ -1,8 +1,7 @@
 -- `drain` serves the numbers of the queue. The loop's invariant: all is as it was, or the work has fallen; the first number does wait.
 use mathlib.Core.Path.{◌≡◌}
 use mathlib.Core.Logic.{◌⊎◌}
-use mathlib.Core.List.{List}
-use Prim.Native.Nat.{ℕ, ◌-◌, ◌<◌}
+use Prim.Native.Nat.{◌-◌, ◌<◌}
 use Rattle.laws.specs.Waiting.{work}
 use Rattle.laws.specs.Extending.{Keeps}
 use Rattle.graph.specs.Edges.{graph_of}

@@ -1,7 +1,5 @@
 -- `offer` takes one arc: at each early return it offers nothing, and at the end its offer is taken.
 use native.Mathlib.Omega.{arith}
-use Prim.Native.Nat.{◌+◌, ◌<◌}
-use lib.ListN.{get_or}
 use Rattle.search.specs.Searching.{skips, declines, accepts}
 use Rattle.search.proofs.keys.offer.Goals as goal
 
