@@ -1,9 +1,7 @@
 -- What a number above 0 does: no later test is asked, it is the answer, and what is lent stays as it was; and what 0 does.
 use Rattle.std.specs.Prelude.{◌≡◌, refl, ℕ, zero, suc, ◌≤◌, ◌<◌}
 use Rattle.std.proofs.Common.{ap, ◌∙◌, arith}
-use Rattle.model.specs.declared.Measures.{Measures}
-use Rattle.model.specs.declared.Measured.TheVariants.{Refused}
-use Rattle.model.specs.Calls.{or_else, if_accepted, measured}
+use Rattle.model.specs.Calls.{or_else, if_accepted}
 
 pub refused_first : (r rest : ℕ) → 0 < r → r ≡ or_else r rest
 unfolding or_else
@@ -27,11 +25,6 @@ pub not_accepted : {A : Type 0} (n : ℕ) (new old : A) → 0 < n → old ≡ if
 unfolding if_accepted
 not_accepted zero new old h = absurd (omega arith)
 not_accepted (suc n) new old h = refl
-
-pub refused : (n k : ℕ) (m : Measures) → 0 < n → n ≡ k → Refused n ≡ measured k m
-unfolding measured
-refused zero k m h e = absurd (omega arith)
-refused (suc n) k m h e = ap (λ (x : ℕ). measured x m) e
 
 pub none : {r : ℕ} → r ≤ 0 → r ≡ 0
 none h = omega arith
