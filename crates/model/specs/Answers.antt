@@ -1,6 +1,8 @@
 -- What a call that answers a value promises: 01's or 02's number and values, by their definition for each case, and the case that follows from the number.
 use Rattle.std.specs.Prelude.{◌≡◌, refl, List, ℕ, zero, suc, Option, Some, None, Result, Ok, Err, length}
 use Rattle.std.proofs.Common.{ap, sym, ◌∙◌, arith}
+use Rattle.std.specs.Result.{IsErrAnd}
+use Rattle.std.proofs.lemmas.Result.{err_from_is_err_and}
 use Rattle.model.specs.declared.Measures.{Measures}
 use Rattle.model.specs.declared.Dimensions.{Dimensions}
 use Rattle.model.specs.declared.Refusal.{Refusal}
@@ -31,6 +33,10 @@ refused_as {A} {none} {v} {n} {r} e = go n e
 pub given_as : {A : Type 0} {none v w : A} {n : ℕ} → 0 ≡ n → w ≡ v → AnswersAs none n v (Ok w)
 unfolding answered if_accepted
 given_as {A} {none} {v} {w} {n} e f = let ok : A → Result A Refusal = λ x. Ok x in rw (← e) (record { number_is = refl; value_is = f; case_is = ap ok f })
+
+-- the refusal of an earlier call, handed on
+pub refused_on : {A : Type 0} {none v : A} {n : ℕ} (answer : Result A Refusal) (r : Refusal) → IsErrAnd answer (λ e. e ≡ r) → number r ≡ n → AnswersAs none n v answer
+refused_on {A} {none} {v} {n} answer r e h = let p = err_from_is_err_and answer e in rw (p.1, p.2) (refused_as h)
 
 -- ---- plan and read file
 abbrev pub PlanAnswers : Dimensions → Result Measures Refusal → Type 0

@@ -1,6 +1,8 @@
 -- The refusals by number: 01, "Calls and their numbers, in order", and 02's after them; and what a call answers by its number and the value that it gives where it is not refused.
 use Rattle.std.specs.Prelude.{◌≡◌, refl, ℕ, zero, suc, ◌-◌, ◌<◌, List, [], ◌∷◌, Result, Ok, Err, get_or}
-use Rattle.std.proofs.Common.{arith, ap, sym, ◌∙◌}
+use Rattle.std.proofs.Common.{arith}
+use Rattle.std.specs.Result.{IsErrAnd}
+use Rattle.std.proofs.lemmas.Result.{err_from_is_err_and}
 use Rattle.model.specs.declared.Refusal.{Refusal}
 use Rattle.model.specs.declared.Refusal.TheVariants.{NotFinite, Size, Radius, Unit, BelowOneSector, RadiusOfSector, ScaleOfTen, ScaleOfZero, AboveTenSectors, FileUnderFive, Sectors, Scale, EntryCount, FileLength, EntryNumber, ListLength, BaseLength, StoreLength, FourthByte, Mark, FloorNumber, MoreWindows, Source, Goal, StepRoom, Sector, WindowRoom, EntryAgain, FileRoom}
 
@@ -59,6 +61,10 @@ answered (suc n) v = Err (refusal (suc n))
 abbrev pub number_of : {A : Type 0} → Result A Refusal → ℕ
 number_of (Ok v) = 0
 number_of (Err r) = number r
+
+-- the refusal of an earlier call, handed on
+pub number_on : {A : Type 0} (answer : Result A Refusal) (r : Refusal) → IsErrAnd answer (λ e. e ≡ r) → number_of answer ≡ number r
+number_on {A} answer r e = let p = err_from_is_err_and answer e in rw (p.1, p.2) refl
 
 -- its value, and what stands for that where it is refused
 abbrev pub value_of : {A : Type 0} → A → Result A Refusal → A

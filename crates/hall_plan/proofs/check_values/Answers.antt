@@ -1,8 +1,8 @@
--- `value_number` gives `value_number`: each return is a rung of its ladder.
+-- `check_values` climbs the ladder of the refusals that look at one value: each return is a rung of it.
 use lib.Ieee.{of_bits}
 use Rattle.laws.specs.Ladder.{ladder}
 use Rattle.model.specs.Calls.{value_number}
-use Rattle.hall_plan.proofs.value_number.Goals as goal
+use Rattle.hall_plan.proofs.check_values.Goals as goal
 
 pub returns-then-not_finite : goal.returns-then-not_finite
 unfolding value_number of_bits

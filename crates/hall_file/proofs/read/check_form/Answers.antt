@@ -1,10 +1,10 @@
--- `form_number` climbs the ladder of the refusals of a file's form: each return goes by what the tests before it found.
+-- `check_form` climbs the ladder of the refusals of a file's form: each return goes by what the tests before it found.
 use borrow.Author.Tests.{lt-ltb, le-ltb}
 use Rattle.laws.specs.Ladder.{refuse_here, refuse_past, flag}
 use Rattle.model.specs.Calls.{form_number}
 use Rattle.store.specs.Checks.{sectors_found, scale_found}
 use borrow.Author.Rules.{rules}
-use Rattle.hall_file.proofs.read.form_number.Goals as goal
+use Rattle.hall_file.proofs.read.check_form.Goals as goal
 
 pub returns-then-file-lt5 : goal.returns-then-file-lt5
 unfolding form_number
