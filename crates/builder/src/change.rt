@@ -2,6 +2,7 @@
 ghost use Rattle.std.specs.Prelude.{◌≡◌, true, ◌&&◌, not, [], ◌+◌, ◌*◌, ◌≤◌, ◌<◌, length, get_or};
 ghost use Rattle.model.specs.Cells.{side_at, side_number};
 ghost use Rattle.model.specs.Sectors.{sectors, cells, beyond, has_beyond};
+ghost use Rattle.model.specs.Numbers.{number_of};
 ghost use Rattle.model.specs.Accepted.{Accepted};
 ghost use Rattle.model.specs.Windows.{window_count};
 ghost use Rattle.model.specs.Store.{decode};
@@ -16,7 +17,7 @@ use crate::marks::{mark_side, take_marks};
 use crate::rooms::{cost_room, mark_room};
 use fields::sectors::{beyond, cells, has_beyond, sectors};
 use fields::sides::{opposite, side_at, side_number};
-use model::{Measures, Side};
+use model::{Measures, Refusal, Side};
 use portal::runs::window_count;
 use sector_cost::nearby::{is_nearby, is_there, nearby};
 use sector_cost::rescale;
@@ -168,22 +169,22 @@ fn change_in(
     scaled: &mut [u8],
     marks: &mut [u16],
     st: &mut [u8],
-) -> u8
+) -> Result<(), Refusal>
     requires { Changeable m st.old n × (length base.old ≡ cells m) × (length scaled.old ≡ cells m) × (length marks.old ≡ sectors m * 4) }
-    ensures { (result ≡ altered_number st.old n cost) × (st.new ≡ altered_into st.old n cost) }
+    ensures { (number_of result ≡ altered_number st.old n cost) × (st.new ≡ altered_into st.old n cost) }
 {
     change_lists(st, m, n, cost, base, scaled, marks);
     if any_exceeds(m, marks, n / 100) {
-        return 22;
+        return Err(Refusal::MoreWindows);
     }
     write_hall(m, base, scaled, marks, st);
-    0
+    Ok(())
 }
 
 // The same in lists of its own.
-pub fn change_hall(m: Measures, n: usize, cost: u8, st: &mut [u8]) -> u8
+pub fn change_hall(m: Measures, n: usize, cost: u8, st: &mut [u8]) -> Result<(), Refusal>
     requires { Changeable m st.old n }
-    ensures { (result ≡ altered_number st.old n cost) × (st.new ≡ altered_into st.old n cost) }
+    ensures { (number_of result ≡ altered_number st.old n cost) × (st.new ≡ altered_into st.old n cost) }
 {
     let mut base = cost_room();
     let mut scaled = cost_room();

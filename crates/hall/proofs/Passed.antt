@@ -1,5 +1,5 @@
 -- A store that passed the check, and the measures read from it.
-use mathlib.Core.Path.{◌≡◌, sym, ◌∙◌}
+use mathlib.Core.Path.{◌≡◌, sym}
 use mathlib.Core.List.{List}
 use Prim.Native.Nat.{ℕ, ◌≤◌, ◌<◌}
 use native.Mathlib.Omega.{arith}
@@ -11,7 +11,6 @@ use Rattle.model.specs.declared.Measures.{Measures}
 use Rattle.model.specs.Accepted.{Accepted}
 use Rattle.model.specs.Store.{measures_at, fourth_at, size_of}
 use Rattle.model.specs.Calls.{check_number}
-use Rattle.model.specs.Refusals.{none}
 use Rattle.model.specs.Checked.{Checked, checked}
 
 -- what the test of the fourth byte found: for the search at each return of the store check
@@ -22,8 +21,8 @@ module _ (st : List ℕ) (r : ℕ) (is : r ≡ fourth_at st) where
   pub fourth_good : r ≤ 0 → ltb 0 (fourth_at st) ≡ false
   fourth_good h = le-ltb 0 (fourth_at st) (omega arith)
 
-pub passed : {st : List ℕ} {r : ℕ} → r ≡ check_number st → r ≤ 0 → Checked st
-passed {st} e z = checked st (sym e ∙ none z)
+pub passed : {st : List ℕ} → 0 ≡ check_number st → Checked st
+passed {st} e = checked st (sym e)
 
 pub has_measures : {st : List ℕ} → Checked st → 3 ≤ length st
 has_measures k = omega (arith, k.room)

@@ -1,8 +1,8 @@
--- `build_number` climbs the ladder of the refusals of a build.
+-- `check_build` climbs the ladder of the refusals of a build.
 use Rattle.laws.specs.Ladder.{ladder}
 use Rattle.model.specs.Calls.{build_number}
 use borrow.Author.Rules.{rules}
-use Rattle.hall.proofs.build.build_number.Goals as goal
+use Rattle.hall.proofs.build.check_build.Goals as goal
 
 pub returns-then-bad_sectors : goal.returns-then-bad_sectors
 unfolding build_number
