@@ -3,33 +3,34 @@ ghost use Rattle.std.specs.Prelude.{◌≡◌, ◌*◌, ◌/◌, ◌≤◌, ◌<
 ghost use Rattle.model.specs.Sectors.{sectors, cells};
 ghost use Rattle.model.specs.Portals.{portal_count, arc_count, portal_graph};
 ghost use Rattle.model.specs.Route.{through_portals, route_of};
+ghost use Rattle.model.specs.Calls.{outcome};
 ghost use Rattle.model.specs.Store.{decode};
 ghost use Rattle.graph.specs.EdgeTable.{Opened};
 ghost use Rattle.path.specs.Following.{Linked};
-ghost use Rattle.route.specs.Finding.{found_answer, found_into, last_route, Paired, pair_route};
+ghost use Rattle.route.specs.Finding.{found_into, last_route, Paired, pair_route};
 
 use choice::pair::{PAIRS, choose_pair};
 use fields::sectors::{SECTOR_CELLS, sectors};
 use graph::edges::{KEY_STEP, fill_edges};
 use graph::near::{moves_to, portal_moves};
 use graph::portals::{HALL_ARCS, HALL_PORTALS, SECTOR_ARCS, SECTOR_PORTALS};
-use model::{Measures, Routed};
+use model::{Measures, Route};
 use moves::spread::APART;
 use path::least::least_path;
 use path::steps::{step_count, write_last, write_steps};
 use search::keys::keys_to;
 
 // The route of one step, to a goal at these moves in the same sector.
-fn one_step(m: Measures, goal: usize, moves: u8, list: &mut [u8]) -> Routed
+fn one_step(m: Measures, goal: usize, moves: u8, list: &mut [u8]) -> Option<Route>
     requires { (1 ≤ m.rows) × (sectors m ≤ 100) × (goal < cells m) }
-    ensures answer { result ≡ found_answer (last_route m goal moves) }
+    ensures answer { result ≡ outcome (last_route m goal moves) }
     ensures steps { list.new ≡ found_into (last_route m goal moves) list.old }
 {
-    let found = Routed::Route {
+    let found = Some(Route {
         steps: 1,
         leg: 0,
         run: moves as u32,
-    };
+    });
     if list.len() / 6 < 1 {
         return found;
     }
@@ -49,20 +50,20 @@ fn through_pair(
     last: u8,
     keys: &mut [u32],
     list: &mut [u8],
-) -> Routed
+) -> Option<Route>
     requires { Linked m st.now table.now (length keys.old) × Paired (decode st.now) p e }
-    ensures answer { result ≡ found_answer (pair_route (decode st.now) goal p e leg last) }
+    ensures answer { result ≡ outcome (pair_route (decode st.now) goal p e leg last) }
     ensures steps { list.new ≡ found_into (pair_route (decode st.now) goal p e leg last) list.old }
 {
     keys_to(m, table, e, keys);
     let mut nodes: [u16; HALL_PORTALS] = [0; HALL_PORTALS];
     let n = least_path(st, m, table, keys, p, &mut nodes);
     let steps = step_count(n);
-    let found = Routed::Route {
+    let found = Some(Route {
         steps: steps as u32,
         leg: leg as u32,
         run: keys[p] / KEY_STEP + (last as u32),
-    };
+    });
     if list.len() / 6 < steps {
         return found;
     }
@@ -79,9 +80,9 @@ fn through_lists(
     table: &mut [u32],
     keys: &mut [u32],
     list: &mut [u8],
-) -> Routed
+) -> Option<Route>
     requires { Opened m st.now × (source < cells m) × (goal < cells m) × (length table.old ≡ arc_count m) × (length keys.old ≡ portal_count m) }
-    ensures answer { result ≡ found_answer (through_portals (decode st.now) (portal_graph (decode st.now)) source goal) }
+    ensures answer { result ≡ outcome (through_portals (decode st.now) (portal_graph (decode st.now)) source goal) }
     ensures steps { list.new ≡ found_into (through_portals (decode st.now) (portal_graph (decode st.now)) source goal) list.old }
 {
     let mut legs: [u8; SECTOR_PORTALS] = [APART; SECTOR_PORTALS];
@@ -93,7 +94,7 @@ fn through_lists(
     let q = goal / SECTOR_CELLS * SECTOR_PORTALS;
     let k = choose_pair(m, table, p, q, &legs, &lasts, keys);
     if PAIRS <= k {
-        return Routed::NoRoute;
+        return None;
     }
     let leg = legs[k / SECTOR_PORTALS];
     let last = lasts[k % SECTOR_PORTALS];
@@ -122,9 +123,9 @@ fn key_room() -> [u32; HALL_PORTALS] {
 }
 
 // The same in lists of its own.
-fn through_portals(st: &[u8], m: Measures, source: usize, goal: usize, list: &mut [u8]) -> Routed
+fn through_portals(st: &[u8], m: Measures, source: usize, goal: usize, list: &mut [u8]) -> Option<Route>
     requires { Opened m st.now × (source < cells m) × (goal < cells m) }
-    ensures answer { result ≡ found_answer (through_portals (decode st.now) (portal_graph (decode st.now)) source goal) }
+    ensures answer { result ≡ outcome (through_portals (decode st.now) (portal_graph (decode st.now)) source goal) }
     ensures steps { list.new ≡ found_into (through_portals (decode st.now) (portal_graph (decode st.now)) source goal) list.old }
 {
     let mut table = table_room();
@@ -143,9 +144,9 @@ fn through_portals(st: &[u8], m: Measures, source: usize, goal: usize, list: &mu
 }
 
 // The route from one cell to another, its steps at the front of a list.
-pub fn find_path(st: &[u8], m: Measures, source: usize, goal: usize, list: &mut [u8]) -> Routed
+pub fn find_path(st: &[u8], m: Measures, source: usize, goal: usize, list: &mut [u8]) -> Option<Route>
     requires { Opened m st.now × (source < cells m) × (goal < cells m) }
-    ensures answer { result ≡ found_answer (route_of (decode st.now) source goal) }
+    ensures answer { result ≡ outcome (route_of (decode st.now) source goal) }
     ensures steps { list.new ≡ found_into (route_of (decode st.now) source goal) list.old }
 {
     let moves = moves_to(st, m, source, goal);

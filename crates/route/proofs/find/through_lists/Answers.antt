@@ -10,13 +10,14 @@ use Rattle.model.specs.Sectors.{sectors, sector_of}
 use Rattle.model.specs.Portals.{sector_portals, place_portal, portal_graph}
 use Rattle.model.specs.Halls.{Hall}
 use Rattle.model.specs.LeastPath.{unlinked}
+use Rattle.model.specs.Calls.{outcome}
 use Rattle.model.specs.Route.{Found, through_portals}
 use Rattle.model.specs.Store.{decode}
 use Rattle.graph.specs.Reading.{fits_of, measures_are}
 use Rattle.path.specs.Following.{Linked, graph_is, searched_of, searched_both_ways}
 use Rattle.graph.specs.Near.{portal_moves}
 use Rattle.choice.specs.Choosing.{sector_pairs, pair_run, run_at, Chosen, chosen_none, chosen_some}
-use Rattle.route.specs.Finding.{found_answer, found_into, pair_found, pair_paired, pair_route, none_found}
+use Rattle.route.specs.Finding.{found_into, pair_found, pair_paired, pair_route, none_found}
 use Rattle.route.proofs.find.through_lists.Goals as goal
 use Rattle.route.proofs.find.through_lists.Goals.{After-choose_pair-k, After-fill_edges}
 
@@ -86,4 +87,4 @@ pub returns : goal.returns
 returns c =
     let call = c.through_pair in
     let f = found_is (goal.at.returns c).After-choose_pair-k c.if-k-ge-PAIRS.false in
-    record { answer = call.ensures.answer ∙ ap found_answer (sym f); steps = call.ensures.steps ∙ ap (λ (x : Found). found_into x c.args.list.now) (sym f) }
+    record { answer = call.ensures.answer ∙ ap outcome (sym f); steps = call.ensures.steps ∙ ap (λ (x : Found). found_into x c.args.list.now) (sym f) }
