@@ -2,72 +2,61 @@
 // An input that cannot be read, or a line that cannot be written, is said on standard error, and is the last thing done.
 #![tactic(auto)]
 
-ghost use Rattle.std.specs.Prelude.{◌≡◌, ◌≤◌, length};
-
 mod lines;
 mod opening;
 mod stdin;
 
-use lines::{next_line, refused_line};
+use arrayvec::ArrayString;
+use lines::{push_bytes, push_refused};
+use model::Refusal;
 use opening::{file_size, open_hall};
-use stdin::{Input, read_input};
+use std::io;
+use std::io::Write;
+use stdin::read_input;
 
-// Prints a text, and answers whether all of it was written.
-fn print(text: &[u8]) -> bool {
-    let written = io::write_all(1, text);
-    if !written {
-        io::write_all(2, b"hallroute: standard output cannot be written\n");
-    }
-    written
+fn print_refused<W: Write>(out: &mut W, refusal: Refusal) -> io::Result<()> {
+    let mut line = ArrayString::<20>::new();
+    push_refused(&mut line, refusal);
+    out.write_all(line.as_str().as_bytes())
 }
 
-fn print_refused(number: u8) {
-    let mut line = [0u8; 20];
-    let n = refused_line(number, &mut line);
-    print(&line[..n]);
-}
-
-fn print_pairs(st: &[u8], pairs: &[u8], steps: &mut [u8], line: &mut [u8])
-    requires { (length steps.old ≡ 6006) × (20100 ≤ length line.old) }
-{
-    let mut at = 0;
-    while at < pairs.len() {
-        let n = next_line(st, pairs, at, steps, line);
-        if !print(&line[..n]) {
-            return;
-        }
-        at += 4;
-    }
-}
-
-fn print_hall(file: &[u8], pairs: &[u8]) {
-    let mut store = [0u8; 20804];
-    let number = open_hall(file, &mut store);
-    if 0 < number {
-        print_refused(number);
-        return;
-    }
+fn print_pairs<W: Write>(out: &mut W, st: &[u8], pairs: &[u8]) -> io::Result<()> {
     let mut steps = [0u8; 6006];
-    let mut line = [0u8; 20100];
-    print_pairs(&store, pairs, &mut steps, &mut line);
+    let mut line = ArrayString::<20100>::new();
+    for pair in pairs.chunks(4) {
+        line.clear();
+        push_bytes(st, pair, &mut steps, &mut line);
+        out.write_all(line.as_str().as_bytes())?;
+    }
+    Ok(())
 }
 
-fn print_lines(input: &[u8]) {
+fn print_hall<W: Write>(out: &mut W, file: &[u8], pairs: &[u8]) -> io::Result<()> {
+    let mut store = [0u8; 20804];
+    match open_hall(file, &mut store) {
+        Ok(()) => print_pairs(out, &store, pairs),
+        Err(refusal) => print_refused(out, refusal),
+    }
+}
+
+fn print_lines<W: Write>(out: &mut W, input: &[u8]) -> io::Result<()> {
     if 65536 < input.len() {
-        print(b"too long\n");
-        return;
+        return out.write_all(b"too long\n");
     }
     let n = file_size(input);
-    print_hall(&input[..n], &input[n..]);
+    print_hall(out, &input[..n], &input[n..])
 }
 
 // One byte more than the most is asked for, so that a longer input shows.
 fn main(rt: HostRuntime) {
     let mut input = [0u8; 65537];
     let mut stdin = rt.stdin();
-    let Input::Bytes(n) = read_input(&mut stdin, &mut input) else {
-        io::write_all(2, b"hallroute: standard input cannot be read\n");
+    let Ok(n) = read_input(&mut stdin, &mut input) else {
+        let _ = eprintln!(rt; "hallroute: standard input cannot be read");
         return;
     };
-    print_lines(&input[..n]);
+    let mut out = io::writer(&rt);
+    if print_lines(&mut out, &input[..n]).is_err() {
+        let _ = eprintln!(rt; "hallroute: standard output cannot be written");
+    }
 }
