@@ -7,8 +7,6 @@ use Rattle.laws.specs.Floor.{BorderMove, Walk, walk_starts, walk_ends}
 use Rattle.laws.specs.Detour.{Promise}
 use Rattle.model.specs.declared.Measures.{Measures}
 use Rattle.model.specs.declared.RouteStep.{RouteStep}
-use Rattle.model.specs.declared.Refusal.{Refusal}
-use Rattle.model.specs.declared.Route.{Route}
 use Rattle.model.specs.Numbers as answer
 use Rattle.model.specs.Sectors.{cells}
 use Rattle.model.specs.Moves.{joined}

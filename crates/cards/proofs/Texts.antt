@@ -9,7 +9,7 @@ use Rattle.model.specs.declared.Refusal.{Refusal}
 use Rattle.model.specs.Numbers.{number}
 use Rattle.model.specs.FlatSteps.{step_in, steps_in, no_steps_in, steps_in_more}
 use Rattle.model.specs.Calls.{Routed}
-use Rattle.model.specs.Hallroute.{text, decimal, side_letter, window_text, step_text, steps_text}
+use Rattle.model.specs.Hallroute.{side_letter, window_text, step_text, steps_text}
 use Rattle.cards.specs.Decimal.{decimal_lem}
 use Rattle.cards.specs.Line.{route_text, routed_text, line_of}
 

@@ -1,5 +1,5 @@
 -- The text of a line, from an answer and the flat form of its steps, and that it is the line of what was found where these are.
-use Rattle.std.specs.Prelude.{◌≡◌, refl, List, ◌++◌, ℕ, zero, suc, Some, None, Ok, Err, length}
+use Rattle.std.specs.Prelude.{◌≡◌, List, ◌++◌, ℕ, zero, suc, Some, None, Ok, Err, length}
 use Rattle.std.proofs.Common.{ap}
 use Rattle.model.specs.declared.Route.{Route}
 use Rattle.model.specs.Numbers.{number, answered}

@@ -1,6 +1,6 @@
 -- The line of what a route call answers and leaves in a list of 1,001 steps: it is the text of the pair.
-use Rattle.std.specs.Prelude.{◌≡◌, refl, List, ◌++◌, ℕ, zero, suc, ◌+◌, ◌*◌, ◌/◌, ◌≤◌, length, drop}
-use Rattle.std.proofs.Common.{ap, ◌∙◌, arith, ltb-false}
+use Rattle.std.specs.Prelude.{◌≡◌, refl, List, ◌++◌, ℕ, zero, suc, ◌/◌, ◌≤◌, length, drop}
+use Rattle.std.proofs.Common.{arith, ltb-false}
 use Rattle.laws.specs.Ladder.{passed}
 use Rattle.model.specs.Steps.{flat_steps}
 use Rattle.model.specs.Route.{Found, route_of}

@@ -27,13 +27,7 @@ fn check_build(m: Measures, base: &[u8], st: &[u8]) -> Result<(), Refusal>
 }
 
 // Builds a hall in a store. A refusal leaves the store as it was; bytes past the hall's size stay.
-pub fn build(
-    columns: u8,
-    rows: u8,
-    scale: u8,
-    base: &[u8],
-    st: &mut [u8],
-) -> Result<(), Refusal>
+pub fn build(columns: u8, rows: u8, scale: u8, base: &[u8], st: &mut [u8]) -> Result<(), Refusal>
     ensures answer { number_of result ≡ build_number (measures_of columns rows scale) base.now st.old }
     ensures store { st.new ≡ build_into (measures_of columns rows scale) base.now st.old }
 {

@@ -1,7 +1,8 @@
 -- The line of the bytes of a pair.
-use Rattle.std.specs.Prelude.{◌≡◌, refl, List, [], ◌∷◌, ◌++◌, ℕ, ◌+◌, ◌^◌, ◌≤◌, ◌<◌, length}
+use Rattle.std.specs.Prelude.{◌≡◌, refl, Option, Some, None, List, [], ◌∷◌, ◌++◌, ℕ, ◌+◌, ◌^◌, ◌≤◌, ◌<◌, length}
 use Rattle.std.specs.Fmt as lib
-use Rattle.std.proofs.Common.{arith, ap, ◌∙◌, append-nil, append_assoc}
+use Rattle.std.specs.Io.KnownBytes.{Appends}
+use Rattle.std.proofs.Common.{arith, sym, append-nil, append_assoc}
 use Rattle.laws.specs.Table.{tabulate}
 use Rattle.model.specs.declared.Refusal.{Refusal}
 use Rattle.model.specs.Numbers.{number}
@@ -10,6 +11,18 @@ use Rattle.model.specs.Hallroute.{text, decimal, pair_lines}
 use Rattle.cards.specs.Decimal.{decimal_lem}
 use Rattle.hallroute.specs.Printed.{pair_line}
 
+-- ---- what a writer holds
+pub appends_none : (old : Option (List ℕ)) → Appends old old []
+appends_none None = tt
+appends_none (Some xs) = sym (append-nil xs)
+
+pub appends_more : (a b c : Option (List ℕ)) (xs ys : List ℕ) → Appends a b xs → Appends b c ys → Appends a c (xs ++ ys)
+appends_more None b c xs ys p q = tt
+appends_more (Some x) None c xs ys p q = absurd p
+appends_more (Some x) (Some y) None xs ys p q = absurd q
+appends_more (Some x) (Some y) (Some z) xs ys p q = rw (q, p) (append_assoc x xs ys)
+
+-- ---- lines
 module _ (st : List ℕ) where
   pub cut_line : (pair : List ℕ) → 0 < length pair → length pair < 4 → 99 ∷ 117 ∷ 116 ∷ 10 ∷ [] ≡ pair_lines st pair
   unfolding pair_lines tabulate

@@ -13,13 +13,7 @@ use model::Refusal;
 use store::reading::u16_at;
 
 // The line of a pair. The list holds 1,001 steps.
-fn push_pair(
-    st: &[u8],
-    source: usize,
-    goal: usize,
-    steps: &mut [u8],
-    line: &mut ArrayString<20100>,
-)
+fn push_pair(st: &[u8], source: usize, goal: usize, steps: &mut [u8], line: &mut ArrayString<20100>)
     requires { (length steps.old ≡ 6006) × (line.old.bytes ≡ []) }
     ensures { line.new.bytes ≡ pair_line st.now source goal }
 {

@@ -9,10 +9,10 @@ use borrow.Author.Tests.{ltb-false}
 use Rattle.laws.specs.Ladder.{passed}
 use Rattle.model.specs.declared.Measures.{Measures}
 use Rattle.model.specs.declared.Refusal.{Refusal}
-use Rattle.model.specs.Numbers.{number, some_number}
+use Rattle.model.specs.Numbers.{number, some_number, value_of}
 use Rattle.model.specs.Sectors.{cells}
 use Rattle.model.specs.Store.{measures_at, decode, file_in}
-use Rattle.model.specs.Calls.{check_number, read_into, write_number, write_into, if_accepted}
+use Rattle.model.specs.Calls.{check_number, read_into, write_number, write_answer, write_into, if_accepted}
 use Rattle.model.specs.Answers.{ReadAnswers, read_case, WriteAnswers}
 use Rattle.model.specs.Refusals.{neither_refused}
 use Rattle.model.specs.FileWritten.{reads_back, written_front}
@@ -43,9 +43,9 @@ module _ (st out : List ℕ) where
     -- and what is read from `[..n]` of it comes back
     pub comes_back : (base : List ℕ) {file new : List ℕ} {r : Result Measures Refusal} → file ≡ take n (write_into st out)
         → ReadAnswers file (length base) r → new ≡ read_into file base → ComesBack st (length out) (length base) r new
-    unfolding write_into if_accepted
     comes_back base {file} e read filled ok right =
-        let is : file ≡ file_in st = e ∙ rw (given, size_is) (take-append_seam (file_in st) (drop (length (file_in st)) out)) in
+        let size : n ≡ value_of 0 (write_answer st (length out)) = ap (value_of 0) a.case_is in
+        let is : file ≡ file_in st = e ∙ ap (λ (k : ℕ). take k (write_into st out)) size ∙ written_front st out ok in
         let back = reads_back st (store_passed ok).0 base right in
         (read_case file (length base) read ∙ rw is back.0, filled ∙ rw is back.1)
 

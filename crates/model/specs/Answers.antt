@@ -1,5 +1,5 @@
 -- What a call that answers a value promises: 01's or 02's number and values, by their definition for each case, and the case that follows from the number.
-use Rattle.std.specs.Prelude.{◌≡◌, refl, List, ℕ, zero, suc, Option, Some, None, Result, Ok, Err, length}
+use Rattle.std.specs.Prelude.{◌≡◌, refl, List, ℕ, zero, suc, None, Result, Ok, Err, length}
 use Rattle.std.proofs.Common.{ap, sym, ◌∙◌, arith}
 use Rattle.std.specs.Result.{IsErrAnd}
 use Rattle.std.proofs.lemmas.Result.{err_from_is_err_and}

@@ -163,15 +163,12 @@ found_number h source goal room found =
 unfoldable pub route_number : List ℕ → ℕ → ℕ → ℕ → ℕ
 route_number st source goal room = or_else (check_number st) (found_number (decode st) source goal room (route_of (decode st) source goal))
 
--- what is answered, and its two cases where it is not refused
+-- what is answered, and a route as an answer
 abbrev pub Routed : Type 0
 Routed = Result (Option Route) Refusal
 
 abbrev pub a_route : ℕ → ℕ → ℕ → Routed
 a_route steps leg run = Ok (Some (record { steps = steps; leg = leg; run = run }))
-
-abbrev pub no_route : Routed
-no_route = Ok None
 
 unfoldable pub outcome : Found → Option Route
 outcome (found_as.route steps leg run) = Some (record { steps = length steps; leg = leg; run = run })

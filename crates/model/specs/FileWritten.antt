@@ -15,7 +15,6 @@ use Rattle.laws.specs.Members.{at_in}
 use Rattle.laws.specs.Ladder.{refuse, not_different}
 use Rattle.laws.specs.Table.{get_or_default}
 use Rattle.model.specs.declared.Measures.{Measures}
-use Rattle.model.specs.declared.Refusal.{Refusal}
 use Rattle.model.specs.Numbers.{answered, value_of}
 use Rattle.model.specs.Sectors.{cells}
 use Rattle.model.specs.Accepted.{Accepted}

@@ -1,6 +1,6 @@
 -- What a number above 0 does: no later test is asked, it is the answer, and what is lent stays as it was; and what 0 does.
-use Rattle.std.specs.Prelude.{◌≡◌, refl, ℕ, zero, suc, ◌≤◌, ◌<◌}
-use Rattle.std.proofs.Common.{ap, sym, ◌∙◌, arith}
+use Rattle.std.specs.Prelude.{◌≡◌, refl, ℕ, zero, suc, ◌<◌}
+use Rattle.std.proofs.Common.{sym, ◌∙◌, arith}
 use Rattle.model.specs.declared.Refusal.{Refusal}
 use Rattle.model.specs.Numbers.{number, some_number}
 use Rattle.model.specs.Calls.{or_else, if_accepted}
@@ -27,6 +27,3 @@ pub not_accepted : {A : Type 0} (n : ℕ) (new old : A) → 0 < n → old ≡ if
 unfolding if_accepted
 not_accepted zero new old h = absurd (omega arith)
 not_accepted (suc n) new old h = refl
-
-pub none : {r : ℕ} → r ≤ 0 → r ≡ 0
-none h = omega arith

@@ -23,9 +23,6 @@ pub record Made (calls : List HallCall) (at : ℕ) (st₀ steps₀ st steps : Li
   pub to_store : store_after st (calls_in (length steps₀ / 6) (drop at calls)) ≡ store_after st₀ (calls_in (length steps₀ / 6) calls)
   pub to_steps : steps_after st (calls_in (length steps₀ / 6) (drop at calls)) steps ≡ steps_after st₀ (calls_in (length steps₀ / 6) calls) steps₀
 
-pub made_none : (calls : List HallCall) (st steps : List ℕ) → Made calls 0 st steps st steps
-made_none calls st steps = record { same_steps = refl; to_store = refl; to_steps = refl }
-
 module _ {calls : List HallCall} {at : ℕ} {st₀ steps₀ st steps : List ℕ} (m : Made calls at st₀ steps₀ st steps) where
   pub made_turn : {st' steps' : List ℕ} (c : HallCall) → drop at calls ≡ c ∷ drop (suc at) calls
       → st' ≡ store_after_call st (call_of (length steps / 6) c) → steps' ≡ steps_after_call st (call_of (length steps / 6) c) steps

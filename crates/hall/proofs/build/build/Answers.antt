@@ -2,7 +2,6 @@
 use Rattle.std.proofs.Common.{◌∙◌}
 use Rattle.model.specs.Numbers.{number_on}
 use Rattle.hall.proofs.Building.{build_kept, buildable, build_written}
-use borrow.Author.Rules.{rules}
 use Rattle.hall.proofs.build.build.Goals as goal
 
 pub returns-in_err-check_build : goal.returns-in_err-check_build

@@ -2,7 +2,7 @@
 use Rattle.std.proofs.Common.{◌∙◌}
 use Rattle.model.specs.declared.Refusal.TheVariants.{FloorNumber}
 use Rattle.model.specs.Numbers.{number_on}
-use Rattle.hall.proofs.Passed.{passed, passing}
+use Rattle.hall.proofs.Passed.{passing}
 use Rattle.hall.proofs.Changing.{change_first, change_kept, change_21, changeable, change_last, change_left}
 use borrow.Author.Rules.{rules}
 use Rattle.hall.proofs.change.change.Goals as goal

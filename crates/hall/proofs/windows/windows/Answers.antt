@@ -1,7 +1,7 @@
 -- `windows` answers and lists as windows do: each return goes by what the tests before it found.
 use Rattle.model.specs.declared.Refusal.TheVariants.{Sector, WindowRoom}
 use Rattle.model.specs.Answers.{refused_as, refused_on}
-use Rattle.hall.proofs.Passed.{passed, passing}
+use Rattle.hall.proofs.Passed.{passing}
 use Rattle.hall.proofs.Listed.{windows_kept, refused_store, refused_26, refused_27, listed_all, listing}
 use borrow.Author.Rules.{rules}
 use Rattle.hall.proofs.windows.windows.Goals as goal

@@ -4,7 +4,7 @@ use native.Mathlib.Omega.{arith}
 use lib.ListN.{length}
 use Rattle.model.specs.declared.Refusal.TheVariants.{FileRoom}
 use Rattle.model.specs.Answers.{refused_as, refused_on}
-use Rattle.hall.proofs.Passed.{passed, passing}
+use Rattle.hall.proofs.Passed.{passing}
 use Rattle.hall_file.proofs.Writing.{few_cells, write_kept, refused_store, refused_29, written_answer, written_output}
 use borrow.Author.Rules.{rules}
 use Rattle.hall_file.proofs.write.write_file.Goals as goal
