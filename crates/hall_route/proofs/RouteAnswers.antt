@@ -1,11 +1,11 @@
 -- What route answers and leaves in the list, in the shapes of its returns.
 use mathlib.Core.Path.{◌≡◌, refl, sym, ap, ◌∙◌}
 use mathlib.Core.List.{List}
-use Prim.Native.Nat.{ℕ, zero, suc, ◌/◌, ◌≤◌, ◌<◌}
+use Prim.Native.Nat.{ℕ, ◌/◌, ◌≤◌, ◌<◌}
 use native.Mathlib.Omega.{arith}
 use lib.Dec.{leb, ltb}
 use lib.ListN.{length}
-use Rattle.std.proofs.Common.{Option, Some, None, Ok}
+use Rattle.std.proofs.Common.{Option, Ok}
 use borrow.Author.Tests.{le-leb, lt-leb, lt-ltb, le-ltb}
 use Rattle.laws.specs.Ladder.{refuse}
 use Rattle.model.specs.declared.Measures.{Measures}
@@ -16,7 +16,7 @@ use Rattle.model.specs.Sectors.{cells}
 use Rattle.model.specs.Store.{measures_at, decode}
 use Rattle.model.specs.Route.{Found, route_of}
 use Rattle.model.specs.Route as found_as
-use Rattle.model.specs.Calls.{or_else, if_accepted, check_number, step_list, outcome, found_number, route_number, routed, routed_steps, route_flat}
+use Rattle.model.specs.Calls.{or_else, if_accepted, check_number, step_list, outcome, found_number, route_number, routed_steps, route_flat}
 use Rattle.model.specs.Answers.{RouteAnswers, routed_as, given_as}
 use Rattle.graph.specs.EdgeTable.{Opened}
 use Rattle.route.specs.Finding.{found_into}

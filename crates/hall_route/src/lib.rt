@@ -19,7 +19,12 @@ fn steps_of(found: Option<Route>) -> usize
 }
 
 // Finds the route from one cell to another, its steps six bytes each: column, row, goal, side, first and last cell. A refusal and "none" leave the list as it was.
-pub fn route(st: &[u8], source: usize, goal: usize, list: &mut [u8]) -> Result<Option<Route>, Refusal>
+pub fn route(
+    st: &[u8],
+    source: usize,
+    goal: usize,
+    list: &mut [u8],
+) -> Result<Option<Route>, Refusal>
     ensures answer { RouteAnswers st.now source goal (length list.old / 6) result }
     ensures steps { list.new ≡ route_flat st.now source goal list.old }
 {

@@ -48,7 +48,12 @@ fn flat_route(
 }
 
 // Finds the route from one cell to another and writes its steps to the first records of a list. A refusal and "none" leave the list as it was.
-pub fn route_records(st: &[u8], source: usize, goal: usize, list: &mut [RouteStep]) -> Result<Option<Route>, Refusal>
+pub fn route_records(
+    st: &[u8],
+    source: usize,
+    goal: usize,
+    list: &mut [RouteStep],
+) -> Result<Option<Route>, Refusal>
     ensures answer { RouteAnswers st.now source goal (length list.old) result }
     ensures steps { list.new ≡ route_steps st.now source goal list.old }
 {

@@ -2,7 +2,7 @@
 use Rattle.std.proofs.Common.{◌∙◌}
 use Rattle.model.specs.declared.Refusal.TheVariants.{Source, Goal, StepRoom}
 use Rattle.model.specs.Answers.{routed_as, refused_as, refused_on}
-use Rattle.hall.proofs.Passed.{passed, passing}
+use Rattle.hall.proofs.Passed.{passing}
 use Rattle.hall_route.proofs.RouteAnswers.{route_kept, refused_store, refused_23, refused_24, refused_25, opened, routed_all}
 use borrow.Author.Rules.{rules}
 use Rattle.hall_route.proofs.route.Goals as goal
