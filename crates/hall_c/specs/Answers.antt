@@ -1,5 +1,5 @@
 -- The number and values of each answer, as the structs that the calls for C return.
-use Rattle.std.specs.Prelude.{ℕ, Float, Option, None, Result, length}
+use Rattle.std.specs.Prelude.{ℕ, Float, Result, length}
 use Rattle.model.specs.declared.Measures.{Measures}
 use Rattle.model.specs.declared.Dimensions.{Dimensions}
 use Rattle.model.specs.declared.Refusal.{Refusal}

@@ -12,7 +12,6 @@ use Rattle.model.specs.declared.Refusal.{Refusal}
 use Rattle.model.specs.Numbers.{number, refusal, refusal_lem, some_number}
 use Rattle.model.specs.Account.{Call}
 use Rattle.model.specs.Calls.{if_accepted, build_number, build_into, Routed, route_answer, route_flat, store_after}
-use Rattle.model.specs.Refusals.{not_accepted}
 use Rattle.audit.specs.Claim.{Demand3}
 use Rattle.reach.specs.Reach.{steps_after, reach_into, reach_steps, Reaches}
 use Rattle.reach.proofs.Calling.{old_kept, refused_steps}

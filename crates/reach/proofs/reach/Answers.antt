@@ -3,7 +3,6 @@ use Rattle.std.proofs.Common.{◌∙◌}
 use Rattle.model.specs.Numbers.{number_on}
 use Rattle.reach.specs.Reach.{into_reaches}
 use Rattle.reach.proofs.Calling.{refused_store, refused_steps, reached_store, reached_steps}
-use borrow.Author.Rules.{rules}
 use Rattle.reach.proofs.reach.Goals as goal
 
 pub returns-in_err-build : goal.returns-in_err-build

@@ -1,5 +1,5 @@
 -- `push_pair`: the route call's answer fits the line, and is read off the list that it left.
-use Rattle.std.proofs.Common.{◌≡◌, arith, ◌∙◌, ap, length, ◌++◌}
+use Rattle.std.proofs.Common.{◌≡◌, arith, ◌∙◌, ap, length}
 use Rattle.arrayvec.specs.ArrayString.{array_string_len}
 use Rattle.cards.specs.Pair.{few_steps, line_of_pair}
 use Rattle.hallroute.proofs.lines.push_pair.Goals as goal
