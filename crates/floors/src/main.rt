@@ -36,8 +36,9 @@ fn replay_all<R: Read, W: Write>(input: &mut R, out: &mut W) -> io::Result<()> {
     Ok(())
 }
 
-fn main(rt: HostRuntime) -> io::Result<()> {
+// A list that breaks off, or an output that is closed, ends the replay: what was printed is compared with what the oracle wrote.
+fn main(rt: HostRuntime) {
     let mut input = rt.stdin();
     let mut out = io::writer(&rt);
-    replay_all(&mut input, &mut out)
+    let _ = replay_all(&mut input, &mut out);
 }
