@@ -1,20 +1,20 @@
 -- DEMAND 3 over the definitions of 01: the answer to a route call on a reached hall keeps the claim.
 use Rattle.std.specs.Prelude.{ℕ, zero, suc, ◌+◌, ◌<◌, ◌≡◌, ◌↔◌, false, List, length}
-use Rattle.std.proofs.Common.{arith, sym, ◌∙◌}
+use Rattle.std.proofs.Common.{arith, sym, ap, ◌∙◌}
 use borrow.Author.Tests.{le-ltb, lt-leb}
 use Rattle.laws.specs.Ladder.{refuse}
 use Rattle.laws.specs.Floor.{BorderMove, Walk, walk_starts, walk_ends}
 use Rattle.laws.specs.Detour.{Promise}
 use Rattle.model.specs.declared.Measures.{Measures}
 use Rattle.model.specs.declared.RouteStep.{RouteStep}
-use Rattle.model.specs.declared.Routed.TheVariants as answer
+use Rattle.model.specs.Numbers as answer
 use Rattle.model.specs.Sectors.{cells}
 use Rattle.model.specs.Moves.{joined}
 use Rattle.model.specs.Halls.{Hall}
 use Rattle.model.specs.Route.{Found, none, route, route_of}
 use Rattle.model.specs.Account.{Call, Account, account_costs, AnyBorder}
 use Rattle.model.specs.Account as account
-use Rattle.model.specs.Calls.{or_else, built, build_into, step_list, found_number, route_number, routed, route_answer, store_after}
+use Rattle.model.specs.Calls.{or_else, built, build_into, step_list, found_number, route_number, a_route, outcome, routed, routed_leg, routed_run, route_answer, store_after}
 use Rattle.audit.specs.Crossings.{floor_of, open_on}
 use Rattle.audit.specs.FreshMarks.{Fresh}
 use Rattle.audit.specs.RoutePromise.{Gives, route_promise, route_room}
@@ -23,12 +23,9 @@ use Rattle.audit.specs.Walks.{walk_is}
 use Rattle.audit.specs.Claim.{LastCall, Claim, Demand3}
 
 -- an answer that is a route comes of a route found
-routed_is : (number : ℕ) (found : Found) (steps leg run : ℕ) → routed number found ≡ answer.Route steps leg run → (list : List RouteStep) × (found ≡ route list leg run)
-unfolding routed
-routed_is zero (route list a b) steps leg run e = let x = same_answer e in (list, rw (x.0, x.1))
-  where
-    same_answer : answer.Route (length list) a b ≡ answer.Route steps leg run → (a ≡ leg) × (b ≡ run)
-    same_answer e = (cc, cc)
+routed_is : (number : ℕ) (found : Found) (steps leg run : ℕ) → routed number found ≡ a_route steps leg run → (list : List RouteStep) × (found ≡ route list leg run)
+unfolding answer.answered outcome
+routed_is zero (route list a b) steps leg run e = (list, rw (ap routed_leg e, ap routed_run e))
 routed_is zero none steps leg run e = absurd (let z : ◌≡◌ {A = ℕ} 0 1 = cc in omega arith)
 routed_is (suc n) found steps leg run e = absurd (let z : ◌≡◌ {A = ℕ} 0 1 = cc in omega arith)
 
@@ -52,7 +49,7 @@ module _ {a : Account} {lent st : List ℕ} (r : Reached a lent st) {source goal
   unfolding route_answer route_number or_else
   answer_is = rw (reached_passes r, reached_hall r)
 
-  given : (steps leg run : ℕ) → route_answer st source goal room ≡ answer.Route steps leg run → Gives hall is_fresh source goal leg run
+  given : (steps leg run : ℕ) → route_answer st source goal room ≡ a_route steps leg run → Gives hall is_fresh source goal leg run
   given steps leg run e = routed_is (found_number hall source goal room (route_of hall source goal)) (route_of hall source goal) steps leg run (sym answer_is ∙ e)
 
   -- a cost for each cell, so that an open cell is on the floor
@@ -64,8 +61,8 @@ module _ {a : Account} {lent st : List ℕ} (r : Reached a lent st) {source goal
   on_floor_lem x o = omega (arith, open_on (account_costs a) x o, cell_costs)
 
   -- a route found is answered
-  answered : (leg run : ℕ) → Gives hall is_fresh source goal leg run → (steps leg run : ℕ) × (route_answer st source goal room ≡ answer.Route steps leg run)
-  unfolding found_number refuse step_list routed built
+  answered : (leg run : ℕ) → Gives hall is_fresh source goal leg run → (steps leg run : ℕ) × (route_answer st source goal room ≡ a_route steps leg run)
+  unfolding found_number refuse step_list answer.answered outcome built
   answered leg run g =
       let w = kept.exactly_when.0 (leg, run, g) in
       let from = on_floor_lem source (walk_starts w.1.1) in

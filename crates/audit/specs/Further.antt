@@ -1,7 +1,6 @@
 -- Further floors beside those of 01, each of which tells a definition from a wrong one that all starred floors would let pass. Each entry is proved by computation.
 use Rattle.std.specs.Prelude.{◌≡◌, refl, [], ◌∷◌, ◌++◌, get_or, set}
-use Rattle.model.specs.declared.Routed.TheVariants.{Route}
-use Rattle.model.specs.Calls.{change_number, change_into, route_answer}
+use Rattle.model.specs.Calls.{change_number, change_into, a_route, route_answer}
 use Rattle.model.specs.Hallroute.{text, hallroute}
 use Rattle.model.specs.Computing.{computing}
 use Rattle.audit.specs.Starred.{hall, floor, scaled, store, file, pair}
@@ -44,7 +43,7 @@ pub record RouteFloors : Type 0 where
   -- "position 0, each even position, and the last"
   pub even_positions : hallroute (file (hall 2 1 1) (8 ∷ 19 ∷ []) ++ pair 51 100) ≡ text "51 100 2 8 6 0,0:59E29-99 1,0:0-\n"
   -- in a lent store facing windows pair by number, not by place
-  pub paired_by_number : route_answer (set (store (hall 2 1 1) []) 418 254) 0 100 1001 ≡ Route 2 13 6
+  pub paired_by_number : route_answer (set (store (hall 2 1 1) []) 418 254) 0 100 1001 ≡ a_route 2 13 6
 
 pub routes : RouteFloors
 unfolding computing

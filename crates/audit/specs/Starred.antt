@@ -1,16 +1,15 @@
 -- 01, "Floors to try": every starred floor, in 01's order, as one table over the definitions. Each entry is proved by computation.
-use Rattle.std.specs.Prelude.{ℕ, ◌/◌, ◌%◌, ◌≡◌, refl, false, List, [], ◌∷◌, ◌++◌, pos, negsuc, Float, length, replicate, set}
+use Rattle.std.specs.Prelude.{ℕ, Result, Ok, Err, ◌/◌, ◌%◌, ◌≡◌, refl, false, List, [], ◌∷◌, ◌++◌, pos, negsuc, Float, length, replicate, set}
 use Rattle.std.specs.Float.{fin, binary32}
 use Rattle.std.specs.Float.Ieee.{of_bits}
 use Rattle.model.specs.declared.Measures.{Measures}
-use Rattle.model.specs.declared.Measured.{Measured}
-use Rattle.model.specs.declared.Measured.TheVariants.{Accepted, Refused}
-use Rattle.model.specs.declared.Routed.TheVariants.{Route}
+use Rattle.model.specs.declared.Refusal.{Refusal}
+use Rattle.model.specs.Numbers.{refusal}
 use Rattle.model.specs.Sectors.{cells}
 use Rattle.model.specs.Scaling.{scale_floor}
 use Rattle.model.specs.Windows.{marks_of, crossing}
 use Rattle.model.specs.Store.{size_of, u16_bytes}
-use Rattle.model.specs.Calls.{plan_answer, build_number, build_into, check_number, change_number, route_answer, windows_flat}
+use Rattle.model.specs.Calls.{plan_answer, build_number, build_into, check_number, change_number, a_route, route_answer, windows_flat}
 use Rattle.model.specs.Hallroute.{text, hallroute}
 use Rattle.model.specs.Computing.{computing}
 
@@ -41,7 +40,7 @@ abbrev pub pair : ℕ → ℕ → List ℕ
 pair source goal = u16_bytes (source ∷ goal ∷ [])
 
 -- sizes, unit and radius
-abbrev plan : Float → Float → Float → Float → Measured
+abbrev plan : Float → Float → Float → Float → Result Measures Refusal
 plan x y unit radius = plan_answer (record { size_x = x; size_y = y; unit = unit; radius = radius })
 
 -- the f32 values 1, 2, 9, 9.5, 10 and 20, and those nearest to 0.1 and 0.3
@@ -80,12 +79,12 @@ corner = 301 ∷ 302 ∷ 303 ∷ 304 ∷ 305 ∷ 306 ∷ 307 ∷ 308 ∷ 309 ∷
 -- ---- the table
 pub record StarredFloors : Type 0 where
   -- "Sizes 20, 10, unit 1: radius 1 gives 2, 1, scale 1; 9 gives scale 9; 9.5 is 7; 10 is 6."
-  pub radius_1 : plan f20 f10 f1 f1 ≡ Accepted (hall 2 1 1)
-  pub radius_9 : plan f20 f10 f1 f9 ≡ Accepted (hall 2 1 9)
-  pub radius_9½ : plan f20 f10 f1 f9½ ≡ Refused 7
-  pub radius_10 : plan f20 f10 f1 f10 ≡ Refused 6
+  pub radius_1 : plan f20 f10 f1 f1 ≡ Ok (hall 2 1 1)
+  pub radius_9 : plan f20 f10 f1 f9 ≡ Ok (hall 2 1 9)
+  pub radius_9½ : plan f20 f10 f1 f9½ ≡ Err (refusal 7)
+  pub radius_10 : plan f20 f10 f1 f10 ≡ Err (refusal 6)
   -- "Sizes 2, 2, unit 0.1, radius 0.3: scale 3."
-  pub tenths : plan f2 f2 f⅒ f³⁄₁₀ ≡ Accepted (hall 2 2 3)
+  pub tenths : plan f2 f2 f⅒ f³⁄₁₀ ≡ Ok (hall 2 2 3)
   -- "1 by 1, scale 2, (1,5) blocked: indices 40, 50, 60 become 255. (2,5) blocked: none."
   pub beside_the_end : scaled (hall 1 1 2) (51 ∷ []) ≡ floor (hall 1 1 2) (40 ∷ 50 ∷ 51 ∷ 60 ∷ [])
   pub two_from_the_end : scaled (hall 1 1 2) (52 ∷ []) ≡ floor (hall 1 1 2) (52 ∷ [])
@@ -103,7 +102,7 @@ pub record StarredFloors : Type 0 where
   pub all_midpoint : crossing 1023 0 ≡ 4
   -- "2 by 1, all cost 1, scale 1, 0 to 100: listing below. 0 to 0, cell blocked: one step, run 0."
   pub two_sectors : hallroute (2 ∷ 1 ∷ 1 ∷ 0 ∷ 0 ∷ 0 ∷ 0 ∷ 100 ∷ 0 ∷ []) ≡ text "0 100 2 13 5 0,0:49E9-99 1,0:0-\n"
-  pub blocked_source : route_answer (store (hall 2 1 1) (0 ∷ [])) 0 0 1 ≡ Route 1 0 0
+  pub blocked_source : route_answer (store (hall 2 1 1) (0 ∷ [])) 0 0 1 ≡ a_route 1 0 0
   -- "2 by 2, scale 1, 301 to 309 and 310, 320 to 390 by tens blocked: 300 to 109 prints `300 109 2 0 1 1,1:0N0-0 0,1:9-`."
   pub corner_gate : hallroute (file (hall 2 2 1) corner ++ pair 300 109) ≡ text "300 109 2 0 1 1,1:0N0-0 0,1:9-\n"
   -- what a text's bytes are

@@ -3,10 +3,9 @@ use Rattle.std.specs.Prelude.{ℕ, ◌+◌, ◌*◌, ◌%◌, ◌≤◌, ◌≡�
 use Rattle.std.proofs.Common.{arith, sym, subst, inl, inr}
 use Rattle.laws.specs.Search.{passing}
 use Rattle.laws.specs.Floor.{BorderMove}
-use Rattle.model.specs.declared.Routed.TheVariants.{Route}
 use Rattle.model.specs.Account.{Call, change, route, opening, account_after, account_costs, border_moves, Along, Walk}
 use Rattle.model.specs.Store.{size_of}
-use Rattle.model.specs.Calls.{build_into, route_answer, store_after}
+use Rattle.model.specs.Calls.{build_into, a_route, route_answer, store_after}
 use Rattle.model.specs.ScaleOne.{floor_one}
 use Rattle.model.specs.Computing.{computing}
 use Rattle.audit.specs.Starred.{hall, floor}
@@ -33,7 +32,7 @@ unfolding computing
 claims = (demand_3 (hall 2 1 1) base lent list 99 190 1001).promised refl (λ before n cost rest e k. refl) (record { differ = λ e. omega arith; apart = refl; roomy = omega arith })
 
 -- the route given, and a walk of one move over one border
-given : route_answer (store_after (build_into (hall 2 1 1) base lent) list) 99 190 1001 ≡ Route 2 5 6
+given : route_answer (store_after (build_into (hall 2 1 1) base lent) list) 99 190 1001 ≡ a_route 2 5 6
 unfolding computing
 given = refl
 
@@ -50,7 +49,7 @@ abbrev walled : List ℕ
 walled = passing (λ n. ltb (n % 100) 90 && (ltb 0 (n % 10) && ltb (n % 10) 9)) 300 0
 
 -- from (9, 9) of the first sector to (0, 9) of the last: 11 moves along row 9 over 2 borders, and run 26 = 11 + 10 × 2 - 5
-sharp : route_answer (build_into (hall 3 1 1) (floor (hall 3 1 1) walled) (replicate (size_of (hall 3 1 1)) 0)) 99 290 1001 ≡ Route 3 5 26
+sharp : route_answer (build_into (hall 3 1 1) (floor (hall 3 1 1) walled) (replicate (size_of (hall 3 1 1)) 0)) 99 290 1001 ≡ a_route 3 5 26
 unfolding computing
 sharp = refl
 

@@ -1,8 +1,8 @@
 -- 02, request 2: floors that are written as files, and outputs of every length, as one table. Each entry is proved by computation.
-use Rattle.std.specs.Prelude.{ℕ, ◌≡◌, refl, List, [], ◌∷◌, replicate, set}
-use Rattle.model.specs.declared.Written.TheVariants.{File, Refused}
+use Rattle.std.specs.Prelude.{ℕ, ◌≡◌, refl, Ok, Err, List, [], ◌∷◌, replicate, set}
+use Rattle.model.specs.Numbers.{refusal, number_of, value_of}
 use Rattle.model.specs.Store.{size_of, file_in}
-use Rattle.model.specs.Calls.{build_into, check_number, change_into, read_into, write_answer, write_into, written_number, written_length}
+use Rattle.model.specs.Calls.{build_into, check_number, change_into, read_into, write_answer, write_into}
 use Rattle.model.specs.Computing.{computing}
 use Rattle.audit.specs.Starred.{hall, floor, store}
 
@@ -44,13 +44,13 @@ pub record WriteCases : Type 0 where
   -- "A floor changed during the season"
   pub changed : file_in (change_into (change_into blocked_5 5 1) 99 40) ≡ 1 ∷ 1 ∷ 1 ∷ 1 ∷ 0 ∷ 99 ∷ 0 ∷ 40 ∷ []
   -- "Only the file's own bytes of the lent output are touched, and the file's length is given"
-  pub given : write_answer blocked_5 8 ≡ File 8
+  pub given : write_answer blocked_5 8 ≡ Ok 8
   pub behind : write_into blocked_5 (replicate 10 9) ≡ 1 ∷ 1 ∷ 1 ∷ 1 ∷ 0 ∷ 5 ∷ 0 ∷ 255 ∷ 9 ∷ 9 ∷ []
   -- "29 when the output is shorter than the file, after the store check"; a refusal's length is 0
-  pub short : write_answer blocked_5 7 ≡ Refused 29
-  pub no_length : written_length (write_answer blocked_5 7) ≡ 0
+  pub short : write_answer blocked_5 7 ≡ Err (refusal 29)
+  pub no_length : value_of 0 (write_answer blocked_5 7) ≡ 0
   pub kept : write_into blocked_5 (replicate 7 9) ≡ replicate 7 9
-  pub store_first : written_number (write_answer (set blocked_5 3 1) 7) ≡ 19
+  pub store_first : number_of (write_answer (set blocked_5 3 1) 7) ≡ 19
   -- "Reading the written file gives these back"
   pub back : read_into (file_in three_costs) (replicate 100 9) ≡ set (set (set (replicate 100 1) 7 2) 5 255) 3 0
 

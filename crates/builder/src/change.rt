@@ -2,6 +2,7 @@
 ghost use Rattle.std.specs.Prelude.{◌≡◌, true, [], ◌+◌, ◌*◌, ◌≤◌, ◌<◌, length, get_or};
 ghost use Rattle.model.specs.Cells.{side_number};
 ghost use Rattle.model.specs.Sectors.{sectors, cells};
+ghost use Rattle.model.specs.Numbers.{number_of};
 ghost use Rattle.model.specs.Accepted.{Accepted};
 ghost use Rattle.model.specs.Windows.{window_count};
 ghost use Rattle.model.specs.Change.{is_nearby, remarked, changed, exceeds_at, exceeds};
@@ -16,7 +17,7 @@ use crate::marks::{mark_side, take_marks};
 use crate::rooms::{cost_room, mark_room};
 use fields::sectors::{cells, neighbour, sectors};
 use fields::sides::{SIDES, opposite};
-use model::{Measures, Side};
+use model::{Measures, Refusal, Side};
 use portal::runs::window_count;
 use sector_cost::nearby::{is_nearby, nearby};
 use sector_cost::rescale;
@@ -161,9 +162,9 @@ fn change_in(
     scaled: &mut [u8],
     marks: &mut [u16],
     st: &mut [u8],
-) -> u8
+) -> Result<(), Refusal>
     requires { Changeable m st.old n × (length base.old ≡ cells m) × (length scaled.old ≡ cells m) × (length marks.old ≡ sectors m * 4) }
-    ensures { (result ≡ altered_number st.old n cost) × (st.new ≡ altered_into st.old n cost) }
+    ensures { (number_of result ≡ altered_number st.old n cost) × (st.new ≡ altered_into st.old n cost) }
 {
     let hall = Opened {
         store: Store {
@@ -173,16 +174,16 @@ fn change_in(
     };
     change_lists(&hall, n, cost, base, scaled, marks);
     if any_exceeds(m, marks, n / 100) {
-        return 22;
+        return Err(Refusal::MoreWindows);
     }
     write_hall(m, base, scaled, marks, st);
-    0
+    Ok(())
 }
 
 // The same in lists of its own.
-pub fn change_hall(m: Measures, n: usize, cost: u8, st: &mut [u8]) -> u8
+pub fn change_hall(m: Measures, n: usize, cost: u8, st: &mut [u8]) -> Result<(), Refusal>
     requires { Changeable m st.old n }
-    ensures { (result ≡ altered_number st.old n cost) × (st.new ≡ altered_into st.old n cost) }
+    ensures { (number_of result ≡ altered_number st.old n cost) × (st.new ≡ altered_into st.old n cost) }
 {
     let mut base = cost_room();
     let mut scaled = cost_room();

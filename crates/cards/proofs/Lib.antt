@@ -1,3 +1,1 @@
-pub mod Digits
-pub mod Texts
-pub mod LineParts
+mod Texts

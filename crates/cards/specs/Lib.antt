@@ -1,4 +1,3 @@
-pub mod Written
 pub mod Decimal
 pub mod Line
 pub mod Pair

@@ -1,6 +1,5 @@
-// The lines that the program prints, as text in a lent buffer. A function that writes at a place answers the place after what it wrote.
+// The lines that `hallroute` prints, each written to a text of fixed room: document 01, "Program `hallroute`".
 #![tactic(auto)]
 
-pub mod decimal;
 pub mod lines;
-pub mod text;
+pub mod numbers;

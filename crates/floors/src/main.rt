@@ -5,31 +5,40 @@
 mod halls;
 mod plans;
 
+use std::io;
+use std::io::{Read, Write};
+
 // An entry of the list; false at the end of it. What is asked of a hall is asked of the store.
-fn replay(store: &mut [u8]) -> bool {
+fn replay<R: Read, W: Write>(input: &mut R, out: &mut W, store: &mut [u8]) -> io::Result<bool> {
     let mut kind = [0u8; 1];
-    if io::read_full(0, &mut kind) == 0 {
-        return false;
+    if input.read(&mut kind)? == 0 {
+        return Ok(false);
     }
     match kind[0] {
-        b'p' => plans::replay(),
-        b'f' => halls::replay_file(store),
-        b'c' => halls::replay_change(store),
-        b'w' => halls::replay_windows(store),
-        b'r' => halls::replay_route(store),
-        _ => false,
+        b'p' => plans::replay(input, out)?,
+        b'f' => halls::replay_file(input, out, store)?,
+        b'c' => halls::replay_change(input, out, store)?,
+        b'w' => halls::replay_windows(input, out, store)?,
+        b'r' => halls::replay_route(input, out, store)?,
+        _ => return Ok(false),
     }
+    Ok(true)
 }
 
-// A proved loop has to end, so it counts its turns down from a number that no list uses up.
-fn replay_all(store: &mut [u8]) {
-    let mut turns: u32 = 1000000;
-    while 0 < turns && replay(store) {
-        turns -= 1;
-    }
-}
-
-fn main() {
+// A proved loop has to end, so its turns are counted up to a number that no list uses up.
+fn replay_all<R: Read, W: Write>(input: &mut R, out: &mut W) -> io::Result<()> {
     let mut store = [0u8; 20804];
-    replay_all(&mut store);
+    for _ in 0..1000000u32 {
+        if !replay(input, out, &mut store)? {
+            break;
+        }
+    }
+    Ok(())
+}
+
+// A list that breaks off, or an output that is closed, ends the replay: what was printed is compared with what the oracle wrote.
+fn main(rt: HostRuntime) {
+    let mut input = rt.stdin();
+    let mut out = io::writer(&rt);
+    let _ = replay_all(&mut input, &mut out);
 }

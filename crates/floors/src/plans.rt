@@ -1,67 +1,60 @@
-// Plans. Each of the four values is given as two numbers of four bytes, to be divided: 0 over 0 is a NaN, 1 over 0 infinite.
-ghost use Rattle.std.specs.Prelude.{◌≤◌};
-
+// Plans.
 use hall_plan::plan;
-use model::{Dimensions, Measured};
+use model::{Dimensions, Measures, Refusal};
+use std::io::{Read, Write};
 use std::num::nearest_u32_to_f32;
+use std::{fmt, io};
 
-fn number(a: u8, b: u8, c: u8, d: u8) -> u32 {
-    a as u32 + 256 * (b as u32) + 65536 * (c as u32) + 16777216 * (d as u32)
+// A value as two numbers, of four bytes each, to be divided: 0 over 0 is a NaN, 1 over 0 infinite.
+#[derive(Clone, Copy)]
+struct Quotient {
+    over: u32,
+    under: u32,
 }
 
-fn number_at(asked: &[u8; 32], i: usize) -> u32
-    requires { i ≤ 28 }
-{
-    number(asked[i], asked[i + 1], asked[i + 2], asked[i + 3])
+impl Quotient {
+    fn read<R: Read>(input: &mut R) -> io::Result<Quotient> {
+        let mut over = [0u8; 4];
+        let mut under = [0u8; 4];
+        input.read_exact(&mut over)?;
+        input.read_exact(&mut under)?;
+        Ok(Quotient {
+            over: u32::from_le_bytes(over),
+            under: u32::from_le_bytes(under),
+        })
+    }
+
+    fn value(self) -> f32 {
+        nearest_u32_to_f32(self.over) / nearest_u32_to_f32(self.under)
+    }
 }
 
-fn quotient(over: u32, under: u32) -> f32 {
-    nearest_u32_to_f32(over) / nearest_u32_to_f32(under)
+impl fmt::Display for Quotient {
+    fn fmt<W: fmt::Write>(&self, f: &mut fmt::Formatter<W>) -> fmt::Result {
+        write!(f, "{}/{}", self.over, self.under)
+    }
 }
 
-fn value_at(asked: &[u8; 32], i: usize) -> f32
-    requires { i ≤ 24 }
-{
-    let over = number_at(asked, i);
-    let under = number_at(asked, i + 4);
-    io::write_all(1, b" ");
-    io::print_decimal(1, over as u64);
-    io::write_all(1, b"/");
-    io::print_decimal(1, under as u64);
-    quotient(over, under)
-}
-
-// The number, then columns, rows and scale.
-pub fn print_measured(answer: Measured) {
+// Columns, rows and scale, or the number of a refusal.
+pub fn print_measured<W: Write>(out: &mut W, answer: Result<Measures, Refusal>) -> io::Result<()> {
     match answer {
-        Measured::Accepted(m) => {
-            io::write_all(1, b" gives ");
-            io::print_decimal(1, m.columns as u64);
-            io::write_all(1, b" ");
-            io::print_decimal(1, m.rows as u64);
-            io::write_all(1, b" ");
-            io::print_decimal(1, m.scale as u64);
-        }
-        Measured::Refused(number) => {
-            io::write_all(1, b" is ");
-            io::print_decimal(1, number as u64);
-        }
+        Ok(m) => write!(out, " gives {} {} {}", m.columns, m.rows, m.scale),
+        Err(refusal) => write!(out, " is {}", refusal.number()),
     }
 }
 
-pub fn replay() -> bool {
-    let mut asked = [0u8; 32];
-    if io::read_full(0, &mut asked) < 32 {
-        return false;
-    }
-    io::write_all(1, b"plan");
+pub fn replay<R: Read, W: Write>(input: &mut R, out: &mut W) -> io::Result<()> {
+    let size_x = Quotient::read(input)?;
+    let size_y = Quotient::read(input)?;
+    let unit = Quotient::read(input)?;
+    let radius = Quotient::read(input)?;
+    write!(out, "plan {size_x} {size_y} {unit} {radius}")?;
     let d = Dimensions {
-        size_x: value_at(&asked, 0),
-        size_y: value_at(&asked, 8),
-        unit: value_at(&asked, 16),
-        radius: value_at(&asked, 24),
+        size_x: size_x.value(),
+        size_y: size_y.value(),
+        unit: unit.value(),
+        radius: radius.value(),
     };
-    print_measured(plan(d));
-    io::write_all(1, b"\n");
-    true
+    print_measured(out, plan(d))?;
+    out.write_all(b"\n")
 }

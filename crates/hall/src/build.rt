@@ -1,33 +1,34 @@
 // The build call.
 ghost use Rattle.std.specs.Prelude.{◌≡◌};
+ghost use Rattle.model.specs.Numbers.{number_of};
 ghost use Rattle.model.specs.Calls.{measures_of, build_number, build_into};
 
 use builder::build::build_hall;
-use model::Measures;
+use model::{Measures, Refusal};
 use store::check::{bad_scale, bad_sectors, too_short, wrong_size};
 
-// The number of the first refusal that applies to measures, base costs and a store, or 0.
-fn build_number(m: Measures, base: &[u8], st: &[u8]) -> u8
-    ensures { result ≡ build_number m base.now st.now }
+// The refusals of measures, base costs and a store.
+fn check_build(m: Measures, base: &[u8], st: &[u8]) -> Result<(), Refusal>
+    ensures { number_of result ≡ build_number m base.now st.now }
 {
     if bad_sectors(m) {
-        return 11;
+        return Err(Refusal::Sectors);
     }
     if bad_scale(m) {
-        return 12;
+        return Err(Refusal::Scale);
     }
     if wrong_size(m, base.len()) {
-        return 17;
+        return Err(Refusal::BaseLength);
     }
     if too_short(st, m) {
-        return 18;
+        return Err(Refusal::StoreLength);
     }
-    0
+    Ok(())
 }
 
 // Builds a hall in a store. A refusal leaves the store as it was; bytes past the hall's size stay.
-pub fn build(columns: u8, rows: u8, scale: u8, base: &[u8], st: &mut [u8]) -> u8
-    ensures answer { result ≡ build_number (measures_of columns rows scale) base.now st.old }
+pub fn build(columns: u8, rows: u8, scale: u8, base: &[u8], st: &mut [u8]) -> Result<(), Refusal>
+    ensures answer { number_of result ≡ build_number (measures_of columns rows scale) base.now st.old }
     ensures store { st.new ≡ build_into (measures_of columns rows scale) base.now st.old }
 {
     let m = Measures {
@@ -35,10 +36,7 @@ pub fn build(columns: u8, rows: u8, scale: u8, base: &[u8], st: &mut [u8]) -> u8
         rows,
         scale,
     };
-    let no = build_number(m, base, st);
-    if 0 < no {
-        return no;
-    }
+    check_build(m, base, st)?;
     build_hall(m, base, st);
-    0
+    Ok(())
 }

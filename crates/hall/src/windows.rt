@@ -3,26 +3,23 @@ ghost use Rattle.std.specs.Prelude.{◌≡◌, ◌/◌, length};
 ghost use Rattle.model.specs.Calls.{windows_flat};
 ghost use Rattle.model.specs.Answers.{WindowsAnswers};
 
-use crate::check::open_store;
+use crate::check::check_store;
 use fields::sectors::sectors;
-use model::Listed;
+use model::Refusal;
 use portal::windows::{sector_windows, windows_number};
 
 // Lists the windows of a sector, N, E, S, W, three bytes each: first cell, last cell and side. A refusal leaves the list as it was.
-pub fn windows(st: &[u8], sector: usize, list: &mut [u8]) -> Listed
+pub fn windows(st: &[u8], sector: usize, list: &mut [u8]) -> Result<u8, Refusal>
     ensures answer { WindowsAnswers st.now sector (length list.old / 3) result }
     ensures listed { list.new ≡ windows_flat st.now sector list.old }
 {
-    let hall = match open_store(st) {
-        Ok(hall) => hall,
-        Err(no) => return Listed::Refused(no),
-    };
+    let hall = check_store(st)?;
     if sectors(hall.store.measures) <= sector {
-        return Listed::Refused(26);
+        return Err(Refusal::Sector);
     }
     let marks = hall.store.sector_marks(sector);
     if list.len() / 3 < windows_number(marks) {
-        return Listed::Refused(27);
+        return Err(Refusal::WindowRoom);
     }
-    Listed::Windows(sector_windows(list, marks) as u8)
+    Ok(sector_windows(list, marks) as u8)
 }

@@ -2,8 +2,11 @@
 #![tactic(auto)]
 
 ghost use Rattle.std.specs.Prelude.{◌≡◌, ◌/◌, length};
-ghost use Rattle.model.specs.Calls.{plan_answer, read_answer, read_into, measures_of, build_number, build_into, check_number, change_number, change_into, route_answer, route_flat, windows_answer, windows_flat, write_answer, write_into};
-ghost use Rattle.hall_c.specs.Answers.{version, dimensions, flat_measures, flat_route, flat_windows, flat_file};
+ghost use Rattle.model.specs.Numbers.{number_of};
+ghost use Rattle.model.specs.Store.{measures_at, decode, file_in};
+ghost use Rattle.model.specs.Route.{route_of};
+ghost use Rattle.model.specs.Calls.{plan_number, plan_measures, read_number, read_into, measures_of, build_number, build_into, check_number, change_number, change_into, route_number, route_flat, windows_of, windows_number, windows_flat, write_number, write_into};
+ghost use Rattle.hall_c.specs.Answers.{version, dimensions, of_measures, of_route, of_windows, of_file, flat_measures, flat_route, flat_windows, flat_file};
 
 use hall::build::build;
 use hall::change::change;
@@ -13,7 +16,7 @@ use hall_file::read::read_file;
 use hall_file::write::write_file;
 use hall_plan::plan;
 use hall_route::route;
-use model::{Dimensions, Listed, Measured, Routed, Written};
+use model::{Dimensions, Measures, Refusal, Route};
 
 // What plan and read file answer: its number, and the measures, which are 0 where it is a refusal.
 #[repr(C)]
@@ -51,65 +54,89 @@ pub struct FileAnswer {
     pub length: u32,
 }
 
-fn flat_measures(answer: Measured) -> MeasuresAnswer
-    ensures { result ≡ flat_measures answer }
-{
-    match answer {
-        Measured::Accepted(m) => MeasuresAnswer {
-            number: 0,
-            columns: m.columns,
-            rows: m.rows,
-            scale: m.scale,
-        },
-        Measured::Refused(number) => MeasuresAnswer {
-            number,
-            columns: 0,
-            rows: 0,
-            scale: 0,
-        },
+impl From<Result<Measures, Refusal>> for MeasuresAnswer {
+    ghost from_gives = { λ answer r. r ≡ of_measures answer };
+
+    fn from(answer: Result<Measures, Refusal>) -> MeasuresAnswer {
+        match answer {
+            Ok(m) => MeasuresAnswer {
+                number: 0,
+                columns: m.columns,
+                rows: m.rows,
+                scale: m.scale,
+            },
+            Err(refusal) => MeasuresAnswer {
+                number: refusal.number(),
+                columns: 0,
+                rows: 0,
+                scale: 0,
+            },
+        }
     }
 }
 
-fn flat_route(answer: Routed) -> RouteAnswer
-    ensures { result ≡ flat_route answer }
-{
-    match answer {
-        Routed::Route { steps, leg, run } => RouteAnswer {
-            number: 0,
-            steps,
-            leg,
-            run,
-        },
-        Routed::NoRoute => RouteAnswer {
-            number: 0,
-            steps: 0,
-            leg: 0,
-            run: 0,
-        },
-        Routed::Refused(number) => RouteAnswer {
-            number,
-            steps: 0,
-            leg: 0,
-            run: 0,
-        },
+impl From<Result<Option<Route>, Refusal>> for RouteAnswer {
+    ghost from_gives = { λ answer r. r ≡ of_route answer };
+
+    fn from(answer: Result<Option<Route>, Refusal>) -> RouteAnswer {
+        match answer {
+            Ok(Some(route)) => RouteAnswer {
+                number: 0,
+                steps: route.steps,
+                leg: route.leg,
+                run: route.run,
+            },
+            Ok(None) => RouteAnswer {
+                number: 0,
+                steps: 0,
+                leg: 0,
+                run: 0,
+            },
+            Err(refusal) => RouteAnswer {
+                number: refusal.number(),
+                steps: 0,
+                leg: 0,
+                run: 0,
+            },
+        }
     }
 }
 
-fn flat_windows(answer: Listed) -> WindowsAnswer
-    ensures { result ≡ flat_windows answer }
-{
-    match answer {
-        Listed::Windows(count) => WindowsAnswer { number: 0, count },
-        Listed::Refused(number) => WindowsAnswer { number, count: 0 },
+impl From<Result<u8, Refusal>> for WindowsAnswer {
+    ghost from_gives = { λ answer r. r ≡ of_windows answer };
+
+    fn from(answer: Result<u8, Refusal>) -> WindowsAnswer {
+        match answer {
+            Ok(count) => WindowsAnswer { number: 0, count },
+            Err(refusal) => WindowsAnswer {
+                number: refusal.number(),
+                count: 0,
+            },
+        }
     }
 }
 
-fn flat_file(answer: Written) -> FileAnswer
-    ensures { result ≡ flat_file answer }
+impl From<Result<u32, Refusal>> for FileAnswer {
+    ghost from_gives = { λ answer r. r ≡ of_file answer };
+
+    fn from(answer: Result<u32, Refusal>) -> FileAnswer {
+        match answer {
+            Ok(length) => FileAnswer { number: 0, length },
+            Err(refusal) => FileAnswer {
+                number: refusal.number(),
+                length: 0,
+            },
+        }
+    }
+}
+
+// The number of an answer that has no values.
+fn number(answer: Result<(), Refusal>) -> u8
+    ensures { result ≡ number_of answer }
 {
     match answer {
-        Written::File(length) => FileAnswer { number: 0, length },
-        Written::Refused(number) => FileAnswer { number, length: 0 },
+        Ok(()) => 0,
+        Err(refusal) => refusal.number(),
     }
 }
 
@@ -124,23 +151,24 @@ pub extern "C" fn hall_version() -> u32
 // A hall's columns, rows and scale from its sizes, unit and radius.
 #[unsafe(no_mangle)]
 pub extern "C" fn hall_plan(size_x: f32, size_y: f32, unit: f32, radius: f32) -> MeasuresAnswer
-    ensures { result ≡ flat_measures (plan_answer (dimensions size_x size_y unit radius)) }
+    ensures { let d = dimensions size_x size_y unit radius in result ≡ flat_measures (plan_number d) (plan_measures d) }
 {
-    flat_measures(plan(Dimensions {
+    let d = Dimensions {
         size_x,
         size_y,
         unit,
         radius,
-    }))
+    };
+    plan(d).into()
 }
 
 // Reads a hall file into a lent list of base costs.
 #[unsafe(no_mangle)]
 pub extern "C" fn hall_read_file(file: &[u8], base: &mut [u8]) -> MeasuresAnswer
-    ensures answer { result ≡ flat_measures (read_answer file.now (length base.old)) }
+    ensures answer { result ≡ flat_measures (read_number file.now (length base.old)) (measures_at file.now) }
     ensures filled { base.new ≡ read_into file.now base.old }
 {
-    flat_measures(read_file(file, base))
+    read_file(file, base).into()
 }
 
 // Builds a hall in a lent store.
@@ -149,7 +177,7 @@ pub extern "C" fn hall_build(columns: u8, rows: u8, scale: u8, base: &[u8], stor
     ensures answer { result ≡ build_number (measures_of columns rows scale) base.now store.old }
     ensures built { store.new ≡ build_into (measures_of columns rows scale) base.now store.old }
 {
-    build(columns, rows, scale, base, store)
+    number(build(columns, rows, scale, base, store))
 }
 
 // The number of the first refusal that applies to a store, or 0.
@@ -157,7 +185,7 @@ pub extern "C" fn hall_build(columns: u8, rows: u8, scale: u8, base: &[u8], stor
 pub extern "C" fn hall_check_store(store: &[u8]) -> u8
     ensures { result ≡ check_number store.now }
 {
-    check_store(store)
+    number(check_store(store))
 }
 
 // Changes the cost of a cell of the hall in a lent store.
@@ -166,7 +194,7 @@ pub extern "C" fn hall_change(store: &mut [u8], floor_number: usize, cost: u8) -
     ensures answer { result ≡ change_number store.old floor_number cost }
     ensures changed { store.new ≡ change_into store.old floor_number cost }
 {
-    change(store, floor_number, cost)
+    number(change(store, floor_number, cost))
 }
 
 // Finds the route from one cell to another, its steps six bytes each: column, row, goal, side, first and last cell.
@@ -177,26 +205,26 @@ pub extern "C" fn hall_route(
     goal: usize,
     list: &mut [u8],
 ) -> RouteAnswer
-    ensures answer { result ≡ flat_route (route_answer store.now source goal (length list.old / 6)) }
+    ensures answer { result ≡ flat_route (route_number store.now source goal (length list.old / 6)) (route_of (decode store.now) source goal) }
     ensures steps { list.new ≡ route_flat store.now source goal list.old }
 {
-    flat_route(route(store, source, goal, list))
+    route(store, source, goal, list).into()
 }
 
 // Lists the windows of a sector, N, E, S, W, three bytes each: first cell, last cell and side.
 #[unsafe(no_mangle)]
 pub extern "C" fn hall_windows(store: &[u8], sector: usize, list: &mut [u8]) -> WindowsAnswer
-    ensures answer { result ≡ flat_windows (windows_answer store.now sector (length list.old / 3)) }
+    ensures answer { result ≡ flat_windows (windows_number store.now sector (length list.old / 3)) (length (windows_of (decode store.now) sector)) }
     ensures listed { list.new ≡ windows_flat store.now sector list.old }
 {
-    flat_windows(windows(store, sector, list))
+    windows(store, sector, list).into()
 }
 
 // Writes the floor of a store as a hall file to the front of a lent output.
 #[unsafe(no_mangle)]
 pub extern "C" fn hall_write_file(store: &[u8], output: &mut [u8]) -> FileAnswer
-    ensures answer { result ≡ flat_file (write_answer store.now (length output.old)) }
+    ensures answer { result ≡ flat_file (write_number store.now (length output.old)) (length (file_in store.now)) }
     ensures written { output.new ≡ write_into store.now output.old }
 {
-    flat_file(write_file(store, output))
+    write_file(store, output).into()
 }

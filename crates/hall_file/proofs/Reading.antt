@@ -1,24 +1,26 @@
 -- What read file answers and leaves in the list, in the shapes of its returns.
-use mathlib.Core.Path.{◌≡◌, refl, sym, ◌∙◌}
+use mathlib.Core.Path.{◌≡◌, sym}
 use mathlib.Core.List.{List}
-use Prim.Native.Nat.{ℕ, ◌+◌, ◌*◌, ◌≤◌, ◌<◌}
+use Prim.Native.Nat.{ℕ, ◌+◌, ◌*◌, ◌≤◌}
 use native.Mathlib.Omega.{arith}
 use lib.ListN.{length}
+use Rattle.std.proofs.Common.{Ok}
 use Rattle.model.specs.declared.Measures.{Measures}
-use Rattle.model.specs.declared.Measured.TheVariants.{Accepted, Refused}
-use Rattle.model.specs.Accepted as within
+use Rattle.model.specs.declared.Refusal.{Refusal}
+use Rattle.model.specs.Accepted.{Accepted}
+use Rattle.model.specs.Numbers.{number, some_number}
 use Rattle.model.specs.Store.{measures_at, entry_count, base_in}
-use Rattle.model.specs.Calls.{measured, if_accepted, form_number, read_number, read_answer, read_into}
-use Rattle.model.specs.Answers.{ReadAnswers, read_answers}
+use Rattle.model.specs.Calls.{if_accepted, form_number, read_number, read_into}
+use Rattle.model.specs.Answers.{ReadAnswers, given_as}
 use Rattle.model.specs.FileCosts.{Formed, formed, Readable, readable}
-use Rattle.model.specs.Refusals.{none, not_accepted, refused}
+use Rattle.model.specs.Refusals.{not_accepted}
 
 -- a file whose form is not refused
-module _ (file : List ℕ) {r : ℕ} (is : r ≡ form_number file) (h : r ≤ 0) where
+module _ (file : List ℕ) (is : 0 ≡ form_number file) where
   form : Formed file
-  form = formed file (sym is ∙ none h)
+  form = formed file (sym is)
 
-  pub form_measures : within.Accepted (measures_at file)
+  pub form_measures : Accepted (measures_at file)
   form_measures = form.measures
 
   pub form_head : 3 ≤ length file
@@ -27,18 +29,18 @@ module _ (file : List ℕ) {r : ℕ} (is : r ≡ form_number file) (h : r ≤ 0)
   pub form_whole : 5 + 3 * entry_count file ≤ length file
   form_whole = omega (arith, form.whole)
 
-module _ (file list : List ℕ) (r : ℕ) (is : r ≡ read_number file (length list)) where
-  pub refused_answer : 0 < r → ReadAnswers file (length list) (Refused r)
-  unfolding read_answer
-  refused_answer h = read_answers file (length list) (rw (← is) (refused r r (measures_at file) h refl))
-
-  pub refused_list : 0 < r → list ≡ read_into file list
+module _ (file list : List ℕ) where
+  pub refused_list : (r : Refusal) → number r ≡ read_number file (length list) → list ≡ read_into file list
   unfolding read_into
-  refused_list h = rw (← is) (not_accepted r (base_in file (length list)) list h)
+  refused_list r e = rw (← e) (not_accepted (number r) (base_in file (length list)) list (some_number r))
 
-  pub read_on : r ≤ 0 → Readable file (length list)
-  read_on h = readable file (length list) (rw (← is) (none h))
+  module _ (is : 0 ≡ read_number file (length list)) where
+    pub read_on : Readable file (length list)
+    read_on = readable file (length list) (sym is)
 
-  pub read_accepted : r ≤ 0 → {m : Measures} {out : List ℕ} → m ≡ measures_at file → out ≡ base_in file (length list) → ReadAnswers file (length list) (Accepted m) × (out ≡ read_into file list)
-  unfolding read_answer read_into measured if_accepted
-  read_accepted h em e = (read_answers file (length list) (rw (← is, none h, em)), rw (← is, none h, e))
+    pub read_given : {m : Measures} → m ≡ measures_at file → ReadAnswers file (length list) (Ok m)
+    read_given e = given_as is e
+
+    pub read_list : {out : List ℕ} → out ≡ base_in file (length list) → out ≡ read_into file list
+    unfolding read_into if_accepted
+    read_list e = rw (← is) e

@@ -1,2 +1,2 @@
-pub mod Printing
-pub mod Reading
+mod Reading
+mod Printing

@@ -1,69 +1,48 @@
--- The lines of what is left of the pairs: one line, and the lines after it.
-use mathlib.Core.Path.{◌≡◌, refl, sym, ap, ◌∙◌}
-use mathlib.Core.List.{List, [], ◌∷◌, ◌++◌}
-use Prim.Native.Nat.{ℕ, ◌+◌, ◌-◌, ◌≤◌, ◌<◌}
-use native.Mathlib.Numerals.{add-one}
-use native.Mathlib.Omega.{arith}
-use lib.ListN.{length, get_or, take, drop, drop_of_length-le, length-drop, length-append}
-use lib.Seq.{drop-cons, take_at}
+-- The line of the bytes of a pair.
+use Rattle.std.specs.Prelude.{◌≡◌, refl, Option, Some, None, List, [], ◌∷◌, ◌++◌, ℕ, ◌^◌, ◌≤◌, ◌<◌, length}
+use Rattle.std.specs.Fmt as lib
+use Rattle.std.specs.Io.KnownBytes.{Appends}
+use Rattle.std.proofs.Common.{arith, sym, append-nil, append_assoc}
 use Rattle.laws.specs.Table.{tabulate}
+use Rattle.model.specs.declared.Refusal.{Refusal}
+use Rattle.model.specs.Numbers.{number}
 use Rattle.model.specs.Store.{u16_at}
 use Rattle.model.specs.Hallroute.{text, decimal, pair_lines}
-use Rattle.io.specs.Counts.{IsPrefixLen}
-use Rattle.io.proofs.Counting.{prefix_len_of_le}
-use Rattle.cards.specs.Written.{Wrote, wrote_length, wrote_first, wrote_on}
+use Rattle.cards.specs.Decimal.{decimal_lem}
 use Rattle.hallroute.specs.Printed.{pair_line}
 
--- a text at the front of a buffer
-front : {t : List ℕ} {r : ℕ} {xs ys : List ℕ} → Wrote t 0 r xs ys → IsPrefixLen r ys × (take r ys ≡ t)
-front {t} {r} {xs} {ys} w =
-    let size : length t ≡ r = omega (arith, w.place) in
-    (prefix_len_of_le _ _ (omega (arith, w.fits, wrote_length w)), ap (take r) (wrote_first w) ∙ take_at t (drop (length t) xs) r size)
+-- ---- what a writer holds
+pub appends_none : (old : Option (List ℕ)) → Appends old old []
+appends_none None = tt
+appends_none (Some xs) = sym (append-nil xs)
 
--- ---- what is left of the pairs
-spare : (st rest : List ℕ) → 0 < length rest → length rest < 4 → pair_lines st rest ≡ text "cut\n"
-unfolding pair_lines
-spare st [] h l = absurd (omega arith)
-spare st (a ∷ []) h l = refl
-spare st (a ∷ b ∷ []) h l = refl
-spare st (a ∷ b ∷ c ∷ []) h l = refl
-spare st (a ∷ b ∷ c ∷ d ∷ rest) h l = absurd (omega arith)
+pub appends_more : (a b c : Option (List ℕ)) (xs ys : List ℕ) → Appends a b xs → Appends b c ys → Appends a c (xs ++ ys)
+appends_more None b c xs ys p q = tt
+appends_more (Some x) None c xs ys p q = absurd p
+appends_more (Some x) (Some y) None xs ys p q = absurd q
+appends_more (Some x) (Some y) (Some z) xs ys p q = rw (q, p) (append_assoc x xs ys)
 
-module _ (st pairs : List ℕ) (k : ℕ) where
-  pub cut_line : k < length pairs → length pairs - k < 4 → {r : ℕ} {xs ys : List ℕ} → Wrote (99 ∷ 117 ∷ 116 ∷ 10 ∷ []) 0 r xs ys
-      → IsPrefixLen r ys × (pair_lines st (drop k pairs) ≡ take r ys ++ pair_lines st (drop (k + 4) pairs))
+-- ---- lines
+module _ (st : List ℕ) where
+  pub cut_line : (pair : List ℕ) → 0 < length pair → length pair < 4 → 99 ∷ 117 ∷ 116 ∷ 10 ∷ [] ≡ pair_lines st pair
   unfolding pair_lines tabulate
-  cut_line h l w = (
-    (front w).0,
-    spare st (drop k pairs) (simp length-drop (omega arith)) (simp length-drop (omega arith))
-        ∙ rw ((front w).1, drop_of_length-le pairs {i = k + 4} (omega arith)),
-  )
+  cut_line [] h l = absurd (omega arith)
+  cut_line (a ∷ []) h l = refl
+  cut_line (a ∷ b ∷ []) h l = refl
+  cut_line (a ∷ b ∷ c ∷ []) h l = refl
+  cut_line (a ∷ b ∷ c ∷ d ∷ rest) h l = absurd (omega arith)
 
-  next : (j i : ℕ) → j < length pairs → i ≡ j + 1 → drop j pairs ≡ get_or pairs j 0 ∷ drop i pairs
-  next j i h e = rw (e, add-one) (drop-cons pairs j 0 h)
-
-  pair_next : k + 4 ≤ length pairs → pair_lines st (drop k pairs) ≡ pair_line st (u16_at pairs k) (u16_at pairs (k + 2)) ++ pair_lines st (drop (k + 4) pairs)
+  pub whole_line : (pair : List ℕ) {source goal : ℕ} → length pair ≤ 4 → 4 ≤ length pair → source ≡ u16_at pair 0 → goal ≡ u16_at pair 2 → pair_line st source goal ≡ pair_lines st pair
   unfolding pair_lines u16_at
-  pair_next h =
-      let a = next k (k + 1) (omega arith) (omega arith) in
-      let b = next (k + 1) (k + 2) (omega arith) (omega arith) in
-      let c = next (k + 2) (k + 2 + 1) (omega arith) (omega arith) in
-      let d = next (k + 2 + 1) (k + 4) (omega arith) (omega arith) in
-      rw (a, b, c, d)
+  whole_line [] h l = absurd (omega arith)
+  whole_line (a ∷ []) h l = absurd (omega arith)
+  whole_line (a ∷ b ∷ []) h l = absurd (omega arith)
+  whole_line (a ∷ b ∷ c ∷ []) h l = absurd (omega arith)
+  whole_line (a ∷ b ∷ c ∷ d ∷ []) h l = λ s g. rw (s, g, append-nil)
+  whole_line (a ∷ b ∷ c ∷ d ∷ e ∷ rest) h l = absurd (omega arith)
 
-  pub pair_line_lem : {source goal r : ℕ} (xs : List ℕ) {ys : List ℕ} → 4 ≤ length pairs - k → source ≡ u16_at pairs k → goal ≡ u16_at pairs (k + 2)
-      → r ≡ length (pair_line st source goal) → r ≤ length xs
-      → ys ≡ pair_line st source goal ++ drop (length (pair_line st source goal)) xs
-      → IsPrefixLen r ys × (pair_lines st (drop k pairs) ≡ take r ys ++ pair_lines st (drop (k + 4) pairs))
-  pair_line_lem {source} {goal} {r} xs {ys} h s g size fits is =
-      let t : List ℕ = pair_line st source goal in
-      let long : r ≤ length ys = rw is (simp (length-append, length-drop) (omega arith)) in
-      let read : take r ys ≡ t = ap (take r) is ∙ take_at t (drop (length t) xs) r (sym size) in
-      (prefix_len_of_le _ _ long, pair_next (omega arith) ∙ rw (read, ← s, ← g))
-
--- ---- a hall that is refused
-pub refused_text : (number : ℕ) {a b r : ℕ} {xs ys zs ws : List ℕ} → Wrote (104 ∷ 97 ∷ 108 ∷ 108 ∷ 32 ∷ 114 ∷ 101 ∷ 102 ∷ 117 ∷ 115 ∷ 101 ∷ 100 ∷ 32 ∷ []) 0 a xs ys → Wrote (decimal number) a b ys zs
-    → Wrote (10 ∷ []) b r zs ws
-    → IsPrefixLen r ws × (take r ws ≡ text "hall refused " ++ (decimal number ++ text "\n"))
+-- the line of a refused hall file
+pub refused_text : (a : List ℕ) {b c d : List ℕ} (r : Refusal) {n : ℕ} → n ≡ number r → n < 2 ^ 64 → b ≡ a ++ (104 ∷ 97 ∷ 108 ∷ 108 ∷ 32 ∷ 114 ∷ 101 ∷ 102 ∷ 117 ∷ 115 ∷ 101 ∷ 100 ∷ 32 ∷ [])
+    → c ≡ b ++ lib.decimal n → d ≡ c ++ 10 ∷ [] → d ≡ a ++ (text "hall refused " ++ (decimal (number r) ++ text "\n"))
 unfolding tabulate
-refused_text number p q s = front (wrote_on p (wrote_on q s))
+refused_text a r {n} i l p q s = rw (s, q, p, ← i, decimal_lem n l) (simp append_assoc)

@@ -1,40 +1,41 @@
 -- How much of the input is the hall file, and what reading and building it leave.
-use mathlib.Core.Path.{◌≡◌, refl, sym, ap, ◌∙◌}
+use mathlib.Core.Path.{◌≡◌, sym, ap, ◌∙◌}
 use mathlib.Core.Bool.{Bool, true, false}
 use mathlib.Core.List.{List}
-use Prim.Native.Nat.{ℕ, zero, suc, ◌+◌, ◌*◌, ◌≤◌, ◌<◌}
+use Prim.Native.Nat.{ℕ, suc, ◌+◌, ◌*◌, ◌≤◌, ◌<◌}
 use native.Mathlib.Omega.{arith}
 use lib.Dec.{ltb}
 use lib.ListN.{length}
+use Rattle.std.proofs.Common.{Ok}
 use borrow.Author.Tests.{lt-ltb, le-ltb, eq-eqb}
 use Rattle.laws.specs.Ladder.{refuse}
 use Rattle.model.specs.declared.Measures.{Measures}
-use Rattle.model.specs.declared.Measured.TheVariants.{Accepted, Refused}
+use Rattle.model.specs.declared.Refusal.{Refusal}
+use Rattle.model.specs.Numbers.{number, some_number}
 use Rattle.model.specs.Sectors.{cells}
 use Rattle.model.specs.Store.{u16_at, measures_at, size_of, base_in}
 use Rattle.model.specs.Accepted.{many_sectors, good_sectors, good_scale}
-use Rattle.model.specs.Calls.{measured, if_accepted, form_number, read_number, read_answer, read_into, build_number, build_into}
+use Rattle.model.specs.Calls.{if_accepted, form_number, read_number, read_into, build_number, build_into}
+use Rattle.model.specs.Answers.{ReadAnswers}
 use Rattle.model.specs.Hallroute.{file_size}
 use Rattle.model.specs.FileCosts.{readable}
 use Rattle.model.specs.Refusals.{refused_first, not_accepted}
-use Rattle.io.specs.Counts.{IsPrefixLen}
-use Rattle.io.proofs.Counting.{prefix_len_of_le}
 use Rattle.hallroute.specs.Opening.{file_number, open_into}
 
 -- ---- the file in the input
 module _ (input : List ℕ) where
-  pub size_head : length input < 5 → (length input ≡ file_size input) × IsPrefixLen (length input) input
+  pub size_head : length input < 5 → (length input ≡ file_size input) × (length input ≤ length input)
   unfolding file_size
-  size_head h = (rw (lt-ltb (length input) 5 h), prefix_len_of_le _ _ (omega arith))
+  size_head h = (rw (lt-ltb (length input) 5 h), omega arith)
 
   module _ {n : ℕ} (count : n ≡ u16_at input 3) (head : 5 ≤ length input) where
-    pub size_all : length input < 5 + 3 * n → (length input ≡ file_size input) × IsPrefixLen (length input) input
+    pub size_all : length input < 5 + 3 * n → (length input ≡ file_size input) × (length input ≤ length input)
     unfolding file_size
-    size_all h = (rw (le-ltb (length input) 5 head) (omega arith), prefix_len_of_le _ _ (omega arith))
+    size_all h = (rw (le-ltb (length input) 5 head) (omega arith), omega arith)
 
-    pub size_counted : 5 + 3 * n ≤ length input → (5 + 3 * n ≡ file_size input) × IsPrefixLen (5 + 3 * n) input
+    pub size_counted : 5 + 3 * n ≤ length input → (5 + 3 * n ≡ file_size input) × (5 + 3 * n ≤ length input)
     unfolding file_size
-    size_counted h = (rw (le-ltb (length input) 5 head) (omega arith), prefix_len_of_le _ _ h)
+    size_counted h = (rw (le-ltb (length input) 5 head) (omega arith), h)
 
 -- ---- how many base costs it is read into
 either_number : (b : Bool) (n m : ℕ) → 0 < refuse b (suc n) (suc m)
@@ -60,31 +61,18 @@ module _ (file : List ℕ) where
         bad_form 0 (rw (many_sectors (measures_at file) (omega arith)) (either_number (ltb (length file) 5) 9 10))
 
 -- ---- what reading it and building its hall leave
-accepted_is : (n : ℕ) {m k : Measures} → Accepted k ≡ measured n m → (n ≡ 0) × (k ≡ m)
-unfolding measured
-accepted_is zero e = (refl, cc)
-accepted_is (suc n) e = let z : ◌≡◌ {A = ℕ} 0 1 = cc in absurd (omega arith)
-
-refused_is : (n : ℕ) {k : ℕ} (m : Measures) → Refused k ≡ measured n m → (k ≡ n) × (0 < n)
-unfolding measured
-refused_is zero m e = let z : ◌≡◌ {A = ℕ} 0 1 = cc in absurd (omega arith)
-refused_is (suc n) m e = (cc, omega arith)
-
-pub file_refused : (file st : List ℕ) (size : ℕ) {n : ℕ} → read_number file size ≡ file_number file → Refused n ≡ read_answer file size → (n ≡ file_number file) × (st ≡ open_into file st)
-unfolding read_answer open_into
-file_refused file st size same e =
-    let r = refused_is (read_number file size) (measures_at file) e in
-    (r.0 ∙ same, not_accepted (file_number file) _ st (omega arith))
+pub file_refused : (file st : List ℕ) (size : ℕ) → read_number file size ≡ file_number file → (r : Refusal) → number r ≡ read_number file size → (number r ≡ file_number file) × (st ≡ open_into file st)
+unfolding open_into
+file_refused file st size same r e = (e ∙ same, rw (← same, ← e) (not_accepted (number r) _ st (some_number r)))
 
 module _ (file base st : List ℕ) (same : read_number file (length base) ≡ file_number file)
-    (room : 20804 ≤ length st) {m : Measures} (read : Accepted m ≡ read_answer file (length base)) {filled : List ℕ} (kept : length filled ≡ length base) (are : filled ≡ read_into file base) where
+    (room : 20804 ≤ length st) {m : Measures} (read : ReadAnswers file (length base) (Ok m)) {filled : List ℕ} (kept : length filled ≡ length base) (are : filled ≡ read_into file base) where
   no : read_number file (length base) ≡ 0
-  unfolding read_answer
-  no = (accepted_is (read_number file (length base)) read).0
+  no = sym read.number_is
 
   its : m ≡ measures_at file
-  unfolding read_answer
-  its = (accepted_is (read_number file (length base)) read).1
+  unfolding if_accepted
+  its = read.value_is ∙ rw no
 
   size : length base ≡ cells (measures_at file)
   size = (readable file (length base) no).room

@@ -1,5 +1,5 @@
 -- What the program prints, by the store that it opened: the lines of the pairs do not depend on what stands behind the hall in it.
-use Rattle.std.specs.Prelude.{ℕ, suc, ◌*◌, ◌/◌, ◌%◌, ◌≤◌, ◌<◌, ◌≡◌, refl, List, [], ◌∷◌, ◌++◌, length, take, drop}
+use Rattle.std.specs.Prelude.{ℕ, zero, suc, ◌*◌, ◌/◌, ◌%◌, ◌≤◌, ◌<◌, ◌≡◌, refl, List, [], ◌∷◌, ◌++◌, min, length, take, drop}
 use Rattle.std.proofs.Common.{arith, sym, ◌∙◌, append-nil, length-append}
 use Rattle.std.proofs.Math.Path.{ap}
 use Rattle.std.proofs.Math.Bool.{false}
@@ -10,6 +10,8 @@ use Rattle.laws.specs.Search.{any}
 use Rattle.laws.specs.Ladder.{refuse}
 use Rattle.laws.specs.Table.{length_tabulate}
 use Rattle.model.specs.declared.Measures.{Measures}
+use Rattle.model.specs.declared.Refusal.{Refusal}
+use Rattle.model.specs.Numbers.{number, some_number}
 use Rattle.model.specs.Cells.{side_at}
 use Rattle.model.specs.Sectors.{sectors, cells}
 use Rattle.model.specs.Windows.{mark_of, marks_of}
@@ -80,20 +82,46 @@ file_laid file =
     record { base_cells = long; scaled_cells = length_floor (cells m) m base long; marks_sides = length_tabulate (λ k. mark_of m (built m base).scaled (k / 4) (side_at (k % 4))) (sectors m * 4) 0 }
 
 -- ---- what is printed
+-- for a hall file and what stands behind it
+module _ (file rest : List ℕ) where
+  refused_lines : (n : ℕ) → 0 < n → hall_lines file rest n ≡ text "hall refused " ++ (decimal n ++ text "\n")
+  unfolding hall_lines
+  refused_lines zero h = absurd (omega arith)
+  refused_lines (suc n) h = refl
+
+  pub refused : (r : Refusal) → number r ≡ file_number file → file_lines file rest ≡ text "hall refused " ++ (decimal (number r) ++ text "\n")
+  unfolding file_lines
+  refused r e = rw (← e) (refused_lines (number r) (some_number r))
+
+  -- with any bytes behind the hall
+  pub opened : (st : List ℕ) {new : List ℕ} → 0 ≡ file_number file → new ≡ open_into file st → file_lines file rest ≡ pair_lines new rest
+  unfolding file_lines hall_lines open_into if_accepted
+  opened st e o = rw (o, ← e) (sym (lines_written (file_hall file) (file_laid file) st rest))
+
 module _ (input : List ℕ) where
   pub too_long : 65536 < length input → hallroute input ≡ text "too long\n"
   unfolding hallroute
   too_long h = rw (lt-ltb 65536 (length input) h)
 
-  module _ (short : length input ≤ 65536) where
-    abbrev file : List ℕ
-    file = take (file_size input) input
+  pub short : length input ≤ 65536 → hallroute input ≡ file_lines (take (file_size input) input) (drop (file_size input) input)
+  unfolding hallroute
+  short h = rw (le-ltb 65536 (length input) h)
 
-    pub refused : (n : ℕ) → file_number file ≡ suc n → hallroute input ≡ text "hall refused " ++ (decimal (suc n) ++ text "\n")
-    unfolding hallroute file_lines hall_lines
-    refused n e = rw (le-ltb 65536 (length input) short, e)
+-- the line of the first pair, and the lines after it
+first_four : (st rest : List ℕ) → pair_lines st rest ≡ pair_lines st (take (min (length rest) 4) rest) ++ pair_lines st (drop (min (length rest) 4) rest)
+unfolding pair_lines
+first_four st [] = refl
+first_four st (a ∷ []) = sym (append-nil _)
+first_four st (a ∷ b ∷ []) = sym (append-nil _)
+first_four st (a ∷ b ∷ c ∷ []) = sym (append-nil _)
+first_four st (a ∷ b ∷ c ∷ d ∷ rest) =
+    let four : min (suc (suc (suc (suc (length rest))))) 4 ≡ 4 = omega arith in
+    rw (four, append-nil)
 
-    -- with any bytes behind the hall
-    pub opened : (st : List ℕ) → file_number file ≡ 0 → hallroute input ≡ pair_lines (open_into file st) (drop (file_size input) input)
-    unfolding hallroute file_lines hall_lines open_into if_accepted
-    opened st e = rw (le-ltb 65536 (length input) short, e) (sym (lines_written (file_hall file) (file_laid file) st (drop (file_size input) input)))
+pub first_pair : (st rest : List ℕ) {n : ℕ} {front back : List ℕ} → n ≡ min (length rest) 4 → front ≡ take n rest → back ≡ drop n rest → pair_lines st rest ≡ pair_lines st front ++ pair_lines st back
+first_pair st rest e f b = first_four st rest ∙ rw (f, b, e)
+
+pub no_pair : (st rest : List ℕ) → length rest ≡ 0 → pair_lines st rest ≡ []
+unfolding pair_lines
+no_pair st [] e = refl
+no_pair st (x ∷ rest) e = absurd (omega arith)

@@ -1,46 +1,46 @@
-// The lines that the program prints, each in a lent buffer.
-ghost use Rattle.std.specs.Prelude.{◌≡◌, ◌++◌, ◌+◌, ◌≤◌, ◌<◌, length, take, drop};
+// The lines that the program prints.
+ghost use Rattle.std.specs.Prelude.{◌≡◌, ◌++◌, ◌+◌, ◌≤◌, ◌<◌, [], length};
+ghost use Rattle.arrayvec.specs.ArrayString.{array_string_len};
+ghost use Rattle.model.specs.Numbers.{number};
 ghost use Rattle.model.specs.Hallroute.{text, decimal, pair_lines};
-ghost use Rattle.io.specs.Counts.{IsPrefixLen};
 ghost use Rattle.hallroute.specs.Printed.{pair_line};
 
-use cards::decimal::put_small;
-use cards::lines::line_of;
-use cards::text::{put_byte, put_text};
+use arrayvec::ArrayString;
+use cards::lines::push_line;
+use cards::numbers::push_number;
 use hall_route::route;
+use model::Refusal;
 use store::reading::u16_at;
 
-// The line of a pair, from the first byte on, and how long it is. The list holds 1,001 steps.
-fn pair_line(st: &[u8], source: usize, goal: usize, steps: &mut [u8], line: &mut [u8]) -> usize
-    requires { (length steps.old ≡ 6006) × (20100 ≤ length line.old) }
-    ensures size { (result ≡ length (pair_line st.now source goal)) × (result ≤ length line.old) }
-    ensures written { line.new ≡ pair_line st.now source goal ++ drop (length (pair_line st.now source goal)) line.old }
+// The line of a pair. The list holds 1,001 steps.
+fn push_pair(st: &[u8], source: usize, goal: usize, steps: &mut [u8], line: &mut ArrayString<20100>)
+    requires { (length steps.old ≡ 6006) × (line.old.bytes ≡ []) }
+    ensures { line.new.bytes ≡ pair_line st.now source goal }
 {
     let answer = route(st, source, goal, steps);
-    line_of(source, goal, answer, steps, line)
+    push_line(line, source, goal, answer, steps);
 }
 
-// The first line for what is left of the pairs from a place on, and how long it is: what is printed is this line, then the lines from the next pair on.
-pub fn next_line(st: &[u8], pairs: &[u8], at: usize, steps: &mut [u8], line: &mut [u8]) -> usize
-    requires { (at < length pairs.now) × (length steps.old ≡ 6006) × (20100 ≤ length line.old) }
-    ensures size { IsPrefixLen result line.new }
-    ensures written { pair_lines st.now (drop at pairs.now) ≡ take result line.new ++ pair_lines st.now (drop (at + 4) pairs.now) }
+// The line of the four bytes of a pair, or `cut` where there are fewer.
+pub fn push_bytes(st: &[u8], pair: &[u8], steps: &mut [u8], line: &mut ArrayString<20100>)
+    requires { (0 < length pair.now) × (length pair.now ≤ 4) × (length steps.old ≡ 6006) × (line.old.bytes ≡ []) }
+    ensures { line.new.bytes ≡ pair_lines st.now pair.now }
 {
-    if pairs.len() - at < 4 {
-        return put_text(line, 0, b"cut\n");
+    if pair.len() < 4 {
+        line.push_str("cut\n");
+        return;
     }
-    let source = usize::from(u16_at(pairs, at));
-    let goal = usize::from(u16_at(pairs, at + 2));
-    pair_line(st, source, goal, steps, line)
+    let source = usize::from(u16_at(pair, 0));
+    let goal = usize::from(u16_at(pair, 2));
+    push_pair(st, source, goal, steps, line);
 }
 
 // The line of a refused hall file.
-pub fn refused_line(number: u8, line: &mut [u8]) -> usize
-    requires { 20 ≤ length line.old }
-    ensures size { IsPrefixLen result line.new }
-    ensures written { take result line.new ≡ text "hall refused " ++ (decimal number ++ text "\n") }
+pub fn push_refused<const N: usize>(line: &mut ArrayString<N>, refusal: Refusal)
+    requires { array_string_len line.old + 20 ≤ N }
+    ensures { line.new.bytes ≡ line.old.bytes ++ (text "hall refused " ++ (decimal (number refusal) ++ text "\n")) }
 {
-    let place = put_text(line, 0, b"hall refused ");
-    let end = put_small(line, place, number);
-    put_byte(line, end, b'\n')
+    line.push_str("hall refused ");
+    push_number(line, refusal.number());
+    line.push_str("\n");
 }

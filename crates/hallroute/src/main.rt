@@ -2,72 +2,93 @@
 // An input that cannot be read, or a line that cannot be written, is said on standard error, and is the last thing done.
 #![tactic(auto)]
 
-ghost use Rattle.std.specs.Prelude.{◌≡◌, ◌≤◌, length};
+ghost use Rattle.std.specs.Prelude.{◌≡◌, ◌++◌, ◌<◌, ◌≤◌, length, OnOk};
+ghost use Rattle.std.specs.Io.KnownBytes.{Appends};
+ghost use Rattle.model.specs.Numbers.{number};
+ghost use Rattle.model.specs.Hallroute.{text, decimal, pair_lines, file_lines, hallroute};
 
 mod lines;
 mod opening;
 mod stdin;
 
-use lines::{next_line, refused_line};
+use arrayvec::ArrayString;
+use lines::{push_bytes, push_refused};
+use model::Refusal;
 use opening::{file_size, open_hall};
-use stdin::{Input, read_input};
+use std::io;
+use std::io::Write;
+use stdin::read_input;
 
-// Prints a text, and answers whether all of it was written.
-fn print(text: &[u8]) -> bool {
-    let written = io::write_all(1, text);
-    if !written {
-        io::write_all(2, b"hallroute: standard output cannot be written\n");
-    }
-    written
-}
-
-fn print_refused(number: u8) {
-    let mut line = [0u8; 20];
-    let n = refused_line(number, &mut line);
-    print(&line[..n]);
-}
-
-fn print_pairs(st: &[u8], pairs: &[u8], steps: &mut [u8], line: &mut [u8])
-    requires { (length steps.old ≡ 6006) × (20100 ≤ length line.old) }
+fn print_refused<W: Write>(out: &mut W, refusal: Refusal) -> io::Result<()>
+    ensures { OnOk result (Appends (W.contents out.old) (W.contents out.new) (text "hall refused " ++ (decimal (number refusal) ++ text "\n"))) }
 {
-    let mut at = 0;
-    while at < pairs.len() {
-        let n = next_line(st, pairs, at, steps, line);
-        if !print(&line[..n]) {
-            return;
-        }
-        at += 4;
-    }
+    let mut line = ArrayString::<20>::new();
+    push_refused(&mut line, refusal);
+    out.write_all(line.as_str().as_bytes())
 }
 
-fn print_hall(file: &[u8], pairs: &[u8]) {
-    let mut store = [0u8; 20804];
-    let number = open_hall(file, &mut store);
-    if 0 < number {
-        print_refused(number);
-        return;
-    }
+// Prints the line of a pair; the list holds 1,001 steps.
+fn print_pair<W: Write>(
+    out: &mut W,
+    st: &[u8],
+    pair: &[u8],
+    steps: &mut [u8],
+    line: &mut ArrayString<20100>,
+) -> io::Result<()>
+    requires { (0 < length pair.now) × (length pair.now ≤ 4) × (length steps.old ≡ 6006) }
+    ensures { OnOk result (Appends (W.contents out.old) (W.contents out.new) (pair_lines st.now pair.now)) }
+{
+    line.clear();
+    push_bytes(st, pair, steps, line);
+    out.write_all(line.as_str().as_bytes())
+}
+
+// Prints the lines of all pairs, four bytes a pair.
+fn print_pairs<W: Write>(out: &mut W, st: &[u8], pairs: &[u8]) -> io::Result<()>
+    ensures { OnOk result (Appends (W.contents out.old) (W.contents out.new) (pair_lines st.now pairs.now)) }
+{
     let mut steps = [0u8; 6006];
-    let mut line = [0u8; 20100];
-    print_pairs(&store, pairs, &mut steps, &mut line);
+    let mut line = ArrayString::<20100>::new();
+    let mut rest = pairs;
+    while !rest.is_empty() {
+        let (pair, tail) = rest.split_at(rest.len().min(4));
+        print_pair(out, st, pair, &mut steps, &mut line)?;
+        rest = tail;
+    }
+    Ok(())
 }
 
-fn print_lines(input: &[u8]) {
-    if 65536 < input.len() {
-        print(b"too long\n");
-        return;
+fn print_hall<W: Write>(out: &mut W, file: &[u8], pairs: &[u8]) -> io::Result<()>
+    ensures { OnOk result (Appends (W.contents out.old) (W.contents out.new) (file_lines file.now pairs.now)) }
+{
+    let mut store = [0u8; 20804];
+    match open_hall(file, &mut store) {
+        Ok(()) => print_pairs(out, &store, pairs),
+        Err(refusal) => print_refused(out, refusal),
     }
-    let n = file_size(input);
-    print_hall(&input[..n], &input[n..]);
+}
+
+// What a writer that says what it holds has more after it, if nothing failed, is what the definition gives for the input.
+fn print_lines<W: Write>(out: &mut W, input: &[u8]) -> io::Result<()>
+    ensures { OnOk result (Appends (W.contents out.old) (W.contents out.new) (hallroute input.now)) }
+{
+    if 65536 < input.len() {
+        return out.write_all(b"too long\n");
+    }
+    let (file, pairs) = input.split_at(file_size(input));
+    print_hall(out, file, pairs)
 }
 
 // One byte more than the most is asked for, so that a longer input shows.
 fn main(rt: HostRuntime) {
     let mut input = [0u8; 65537];
     let mut stdin = rt.stdin();
-    let Input::Bytes(n) = read_input(&mut stdin, &mut input) else {
-        io::write_all(2, b"hallroute: standard input cannot be read\n");
+    let Ok(n) = read_input(&mut stdin, &mut input) else {
+        let _ = eprintln!(rt; "hallroute: standard input cannot be read");
         return;
     };
-    print_lines(&input[..n]);
+    let mut out = io::writer(&rt);
+    if print_lines(&mut out, &input[..n]).is_err() {
+        let _ = eprintln!(rt; "hallroute: standard output cannot be written");
+    }
 }

@@ -7,15 +7,17 @@ ghost use Rattle.home.specs.Home.{ComesBack};
 
 use hall_file::read::read_file;
 use hall_file::write::write_file;
-use model::{Measured, Written};
+use model::{Measures, Refusal};
 
 // Writes the floor of a store to the front of a lent output, and reads the file that is there then into a lent list of base costs.
-pub fn write_and_read(st: &[u8], output: &mut [u8], base: &mut [u8]) -> Measured
+pub fn write_and_read(
+    st: &[u8],
+    output: &mut [u8],
+    base: &mut [u8],
+) -> Result<Measures, Refusal>
     ensures written { output.new ≡ write_into st.now output.old }
     ensures back { ComesBack st.now (length output.old) (length base.old) result base.new }
 {
-    match write_file(st, output) {
-        Written::File(length) => read_file(&output[0..length as usize], base),
-        Written::Refused(number) => Measured::Refused(number),
-    }
+    let length = write_file(st, output)?;
+    read_file(&output[..length as usize], base)
 }

@@ -2,9 +2,8 @@
 use Rattle.std.specs.Prelude.{ℕ, ◌<◌, ◌≡◌, List}
 use Rattle.std.proofs.Common.{arith}
 use Rattle.model.specs.declared.Measures.{Measures}
-use Rattle.model.specs.declared.Routed.{Routed}
 use Rattle.model.specs.Account.{Call, Account, opening, account_after}
-use Rattle.model.specs.Calls.{build_number, route_answer}
+use Rattle.model.specs.Calls.{build_number, Routed, route_answer}
 use Rattle.audit.specs.Reached.{Reached}
 use Rattle.audit.specs.Claim.{LastCall, Claim, Demand3}
 use Rattle.audit.specs.Demand3.{route_claims}

@@ -10,11 +10,16 @@ ghost use Rattle.journey.specs.Journey.{journey_answer, journey_steps};
 ghost use Rattle.journey.specs.Parts.{ClaimsReached};
 
 use hall_route::route;
-use model::Routed;
-use reach::reach;
+use model::{Refusal, Route};
+use reach::{HallCall, reach};
 
 // A route call that may come last: on a reached hall its answer keeps the claim of demand 3.
-pub fn route_reached(st: &[u8], source: usize, goal: usize, steps: &mut [u8]) -> Routed
+pub fn route_reached(
+    st: &[u8],
+    source: usize,
+    goal: usize,
+    steps: &mut [u8],
+) -> Result<Option<Route>, Refusal>
     ensures answer { RouteAnswers st.now source goal (length steps.old / 6) result }
     ensures steps { steps.new ≡ route_flat st.now source goal steps.old }
     ensures claim { ClaimsReached st.now source goal (length steps.old / 6) result }
@@ -28,20 +33,17 @@ pub fn route_after(
     rows: u8,
     scale: u8,
     base: &[u8],
-    calls: &[u32],
+    calls: &[HallCall],
     source: usize,
     goal: usize,
     st: &mut [u8],
     steps: &mut [u8],
-) -> Routed
+) -> Result<Option<Route>, Refusal>
     ensures answer { result ≡ journey_answer (measures_of columns rows scale) base.now st.old (calls_in (length steps.old / 6) calls.now) source goal (length steps.old / 6) }
     ensures store { st.new ≡ reach_into (measures_of columns rows scale) base.now st.old (calls_in (length steps.old / 6) calls.now) }
     ensures steps { steps.new ≡ journey_steps (measures_of columns rows scale) base.now st.old (calls_in (length steps.old / 6) calls.now) source goal steps.old }
     ensures demand3 { Demand3 (measures_of columns rows scale) base.now st.old (calls_in (length steps.old / 6) calls.now) source goal (length steps.old / 6) result }
 {
-    let refusal = reach(columns, rows, scale, base, calls, st, steps);
-    if 0 < refusal {
-        return Routed::Refused(refusal);
-    }
+    reach(columns, rows, scale, base, calls, st, steps)?;
     route_reached(st, source, goal, steps)
 }

@@ -1,5 +1,5 @@
 -- 01, "Calls and their numbers, in order", and 02's calls after them: each call's refusals, its answer, and what it leaves in the memory that it is lent.
-use Rattle.std.specs.Prelude.{ℕ, zero, suc, ◌+◌, ◌*◌, ◌/◌, ◌%◌, Bool, not, ◌&&◌, ◌||◌, List, [], ◌∷◌, ◌++◌, leb, ltb, eqb, length, get_or, drop}
+use Rattle.std.specs.Prelude.{ℕ, zero, suc, ◌+◌, ◌*◌, ◌/◌, ◌%◌, Bool, not, ◌&&◌, ◌||◌, Option, Some, None, Result, Ok, Err, List, [], ◌∷◌, ◌++◌, leb, ltb, eqb, length, get_or, drop}
 use Rattle.std.specs.Float.Ieee.{lt, le}
 use Rattle.std.specs.Float.Ieee.Scale.{finite}
 use Rattle.laws.specs.Fold.{pick}
@@ -9,14 +9,9 @@ use Rattle.model.specs.declared.Measures.{Measures}
 use Rattle.model.specs.declared.Dimensions.{Dimensions}
 use Rattle.model.specs.declared.PortalWindow.{PortalWindow}
 use Rattle.model.specs.declared.RouteStep.{RouteStep}
-use Rattle.model.specs.declared.Measured.{Measured}
-use Rattle.model.specs.declared.Measured.TheVariants.{Accepted, Refused}
-use Rattle.model.specs.declared.Routed.{Routed}
-use Rattle.model.specs.declared.Routed.TheVariants as routed_as
-use Rattle.model.specs.declared.Listed.{Listed}
-use Rattle.model.specs.declared.Listed.TheVariants as listed_as
-use Rattle.model.specs.declared.Written.{Written}
-use Rattle.model.specs.declared.Written.TheVariants as written_as
+use Rattle.model.specs.declared.Refusal.{Refusal}
+use Rattle.model.specs.declared.Route.{Route}
+use Rattle.model.specs.Numbers.{answered}
 use Rattle.model.specs.Cells.{side_at}
 use Rattle.model.specs.Sectors.{sectors, cells, sector_of, has_beyond}
 use Rattle.model.specs.Accepted.{bad_sectors, bad_scale}
@@ -43,19 +38,6 @@ unfoldable pub if_accepted : {A : Type 0} → ℕ → A → A → A
 if_accepted zero new old = new
 if_accepted (suc n) new old = old
 
--- an answer of measures, and 01's number and values for each of its cases
-unfoldable pub measured : ℕ → Measures → Measured
-measured zero m = Accepted m
-measured (suc n) m = Refused (suc n)
-
-abbrev pub measured_number : Measured → ℕ
-measured_number (Accepted m) = 0
-measured_number (Refused n) = n
-
-abbrev pub measured_values : Measured → Measures
-measured_values (Accepted m) = m
-measured_values (Refused n) = record { columns = 0; rows = 0; scale = 0 }
-
 -- ---- plan
 -- 1 "a value not finite", 2 "a size ≤ 0", 3 "radius ≤ 0", 4 "unit ≤ 0"
 unfoldable pub value_number : Dimensions → ℕ
@@ -80,8 +62,8 @@ plan_number d = or_else (value_number d) (measure_number d)
 abbrev pub plan_measures : Dimensions → Measures
 plan_measures d = record { columns = cut_down (across_quotient d); rows = cut_down (down_quotient d); scale = scale_of d }
 
-unfoldable pub plan_answer : Dimensions → Measured
-plan_answer d = measured (plan_number d) (plan_measures d)
+unfoldable pub plan_answer : Dimensions → Result Measures Refusal
+plan_answer d = answered (plan_number d) (plan_measures d)
 
 -- ---- read file
 -- 10 "under 5 bytes", 11, 12, 13 "count above 10,000", 14 "length not 5 + 3 × count"
@@ -111,8 +93,8 @@ entries_number file size =
 unfoldable pub read_number : List ℕ → ℕ → ℕ
 read_number file size = or_else (form_number file) (entries_number file size)
 
-unfoldable pub read_answer : List ℕ → ℕ → Measured
-read_answer file size = measured (read_number file size) (measures_at file)
+unfoldable pub read_answer : List ℕ → ℕ → Result Measures Refusal
+read_answer file size = answered (read_number file size) (measures_at file)
 
 -- "An accepted file gives its columns, rows and scale and fills the list"
 unfoldable pub read_into : List ℕ → List ℕ → List ℕ
@@ -181,10 +163,19 @@ found_number h source goal room found =
 unfoldable pub route_number : List ℕ → ℕ → ℕ → ℕ → ℕ
 route_number st source goal room = or_else (check_number st) (found_number (decode st) source goal room (route_of (decode st) source goal))
 
-unfoldable pub routed : ℕ → Found → Routed
-routed zero (found_as.route steps leg run) = routed_as.Route (length steps) leg run
-routed zero none = routed_as.NoRoute
-routed (suc n) found = routed_as.Refused (suc n)
+-- what is answered, and a route as an answer
+abbrev pub Routed : Type 0
+Routed = Result (Option Route) Refusal
+
+abbrev pub a_route : ℕ → ℕ → ℕ → Routed
+a_route steps leg run = Ok (Some (record { steps = steps; leg = leg; run = run }))
+
+unfoldable pub outcome : Found → Option Route
+outcome (found_as.route steps leg run) = Some (record { steps = length steps; leg = leg; run = run })
+outcome none = None
+
+abbrev pub routed : ℕ → Found → Routed
+routed number found = answered number (outcome found)
 
 unfoldable pub route_answer : List ℕ → ℕ → ℕ → ℕ → Routed
 route_answer st source goal room = routed (route_number st source goal room) (route_of (decode st) source goal)
@@ -200,26 +191,21 @@ route_flat st source goal list =
     let bytes = flat_steps (step_list (route_of (decode st) source goal)) in
     if_accepted (route_number st source goal (length list / 6)) (bytes ++ drop (length bytes) list) list
 
--- 01's number and values for each case of the answer: "A refusal returns its number, every other result 0"
-abbrev pub routed_number : Routed → ℕ
-routed_number (routed_as.Route steps leg run) = 0
-routed_number routed_as.NoRoute = 0
-routed_number (routed_as.Refused n) = n
-
+-- 01's values for each case of the answer; its number is `number_of`
 abbrev pub routed_steps : Routed → ℕ
-routed_steps (routed_as.Route steps leg run) = steps
-routed_steps routed_as.NoRoute = 0
-routed_steps (routed_as.Refused n) = 0
+routed_steps (Ok (Some r)) = r.steps
+routed_steps (Ok None) = 0
+routed_steps (Err e) = 0
 
 abbrev pub routed_leg : Routed → ℕ
-routed_leg (routed_as.Route steps leg run) = leg
-routed_leg routed_as.NoRoute = 0
-routed_leg (routed_as.Refused n) = 0
+routed_leg (Ok (Some r)) = r.leg
+routed_leg (Ok None) = 0
+routed_leg (Err e) = 0
 
 abbrev pub routed_run : Routed → ℕ
-routed_run (routed_as.Route steps leg run) = run
-routed_run routed_as.NoRoute = 0
-routed_run (routed_as.Refused n) = 0
+routed_run (Ok (Some r)) = r.run
+routed_run (Ok None) = 0
+routed_run (Err e) = 0
 
 -- ---- windows
 -- "Windows of a sector, N, E, S, W", "each first cell, last cell and side"
@@ -241,12 +227,8 @@ windows_number st s room =
     (refuse (leb (sectors (measures_at st)) s) 26
     (refuse (ltb room (length (windows_of (decode st) s))) 27 0))
 
-unfoldable pub listed : ℕ → ℕ → Listed
-listed zero count = listed_as.Windows count
-listed (suc n) count = listed_as.Refused (suc n)
-
-unfoldable pub windows_answer : List ℕ → ℕ → ℕ → Listed
-windows_answer st s room = listed (windows_number st s room) (length (windows_of (decode st) s))
+unfoldable pub windows_answer : List ℕ → ℕ → ℕ → Result ℕ Refusal
+windows_answer st s room = answered (windows_number st s room) (length (windows_of (decode st) s))
 
 -- "Accepted, it gives their count and writes only that many entries": a flat list of three bytes an entry
 unfoldable pub windows_flat : List ℕ → ℕ → List ℕ → List ℕ
@@ -254,40 +236,18 @@ windows_flat st s list =
     let bytes = flat_windows (windows_of (decode st) s) in
     if_accepted (windows_number st s (length list / 3)) (bytes ++ drop (length bytes) list) list
 
-abbrev pub listed_number : Listed → ℕ
-listed_number (listed_as.Windows count) = 0
-listed_number (listed_as.Refused n) = n
-
-abbrev pub listed_count : Listed → ℕ
-listed_count (listed_as.Windows count) = count
-listed_count (listed_as.Refused n) = 0
-
 -- ---- write file
 -- 02, request 2: 29 "when the output is shorter than the file, after the store check"
 unfoldable pub write_number : List ℕ → ℕ → ℕ
 write_number st room = or_else (check_number st) (refuse (ltb room (length (file_in st))) 29 0)
 
--- the answer that a number gives, with the length of a file
-unfoldable pub wrote : ℕ → ℕ → Written
-wrote zero size = written_as.File size
-wrote (suc n) size = written_as.Refused (suc n)
-
 -- "the file's length is given"
-unfoldable pub write_answer : List ℕ → ℕ → Written
-write_answer st room = wrote (write_number st room) (length (file_in st))
+unfoldable pub write_answer : List ℕ → ℕ → Result ℕ Refusal
+write_answer st room = answered (write_number st room) (length (file_in st))
 
 -- "Only the file's own bytes of the lent output are touched"
 unfoldable pub write_into : List ℕ → List ℕ → List ℕ
 write_into st out = if_accepted (write_number st (length out)) (file_in st ++ drop (length (file_in st)) out) out
-
--- the number and the length that an answer gives
-abbrev pub written_number : Written → ℕ
-written_number (written_as.File size) = 0
-written_number (written_as.Refused n) = n
-
-abbrev pub written_length : Written → ℕ
-written_length (written_as.File size) = size
-written_length (written_as.Refused n) = 0
 
 -- ---- a list of calls
 -- the store after a call, and after calls made in turn, nobody else writing it

@@ -29,10 +29,11 @@ use Rattle.model.specs.Route.{starts, ends, end_of, linked_pair, run_of, route_p
 use Rattle.model.specs.Account.{fed, account_after, account_costs, border_moves}
 use Rattle.model.specs.Store.{u16_at, marks_in, decode, u16_bytes, encode, written, entry_names, cost_in, base_in, is_named, named_cells, file_of}
 use Rattle.model.specs.Accepted.{bad_sectors, bad_scale}
-use Rattle.model.specs.Calls.{or_else, if_accepted, measured, value_number, measure_number, plan_number, plan_answer, form_number, entry_off, entry_again, entries_number, read_number, read_answer, read_into}
+use Rattle.model.specs.Numbers.{answered}
+use Rattle.model.specs.Calls.{or_else, if_accepted, value_number, measure_number, plan_number, plan_answer, form_number, entry_off, entry_again, entries_number, read_number, read_answer, read_into}
 use Rattle.model.specs.Calls.{build_number, built, build_into, bad_mark, check_number, alter_number, change_number, change_into}
-use Rattle.model.specs.Calls.{step_list, found_number, route_number, routed, route_answer, route_steps, route_flat}
-use Rattle.model.specs.Calls.{windows_from, flat_windows, windows_number, listed, windows_answer, windows_flat, write_number, wrote, write_answer, write_into, store_after_call, store_after}
+use Rattle.model.specs.Calls.{step_list, found_number, route_number, outcome, route_answer, route_steps, route_flat}
+use Rattle.model.specs.Calls.{windows_from, flat_windows, windows_number, windows_answer, windows_flat, write_number, write_answer, write_into, store_after_call, store_after}
 use Rattle.model.specs.Hallroute.{digits, window_text, step_text, steps_text, answer_text, pair_text, pair_lines, file_size, hall_lines, file_lines, hallroute}
 
 unfoldable in_numbers : Unit {0}
@@ -76,7 +77,7 @@ unfolding fed account_after account_costs border_moves u16_at marks_in decode u1
 in_bytes = tt
 
 unfoldable in_calls : Unit {0}
-unfolding or_else if_accepted measured value_number measure_number plan_number plan_answer form_number entry_off entry_again entries_number read_number read_answer read_into
+unfolding answered or_else if_accepted value_number measure_number plan_number plan_answer form_number entry_off entry_again entries_number read_number read_answer read_into
 in_calls = tt
 
 unfoldable in_stores : Unit {0}
@@ -84,11 +85,11 @@ unfolding build_number built build_into bad_mark check_number alter_number chang
 in_stores = tt
 
 unfoldable in_routes : Unit {0}
-unfolding step_list found_number route_number routed route_answer route_steps route_flat
+unfolding step_list found_number route_number outcome route_answer route_steps route_flat
 in_routes = tt
 
 unfoldable in_listed : Unit {0}
-unfolding windows_from flat_windows windows_number listed windows_answer windows_flat write_number wrote write_answer write_into store_after_call store_after
+unfolding windows_from flat_windows windows_number windows_answer windows_flat write_number write_answer write_into store_after_call store_after
 in_listed = tt
 
 unfoldable in_text : Unit {0}

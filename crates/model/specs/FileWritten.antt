@@ -2,7 +2,7 @@
 use Prim.Native.Nat.{ℕ, suc, ◌+◌, ◌*◌, ◌/◌, ◌%◌, ◌≤◌, ◌<◌}
 use Rattle.std.proofs.Math.Nat.{add-zero, zero-add}
 use native.Mathlib.Omega.{arith}
-use Rattle.std.specs.Prelude.{◌≡◌, ◌≢◌, Bool, true, false, List, [], ◌∷◌, ◌++◌, map, ltb, eqb, length, get_or, take, drop}
+use Rattle.std.specs.Prelude.{◌≡◌, ◌≢◌, Bool, true, false, List, [], ◌∷◌, ◌++◌, map, Ok, ltb, eqb, length, get_or, take, drop}
 use Rattle.std.proofs.Math.Path.{refl, sym, ap}
 use Rattle.std.proofs.Common.{◌∙◌, length-append, get_or-append-add}
 use Rattle.std.proofs.Math.Bool.{not, true≢false}
@@ -15,12 +15,12 @@ use Rattle.laws.specs.Members.{at_in}
 use Rattle.laws.specs.Ladder.{refuse, not_different}
 use Rattle.laws.specs.Table.{get_or_default}
 use Rattle.model.specs.declared.Measures.{Measures}
-use Rattle.model.specs.declared.Measured.TheVariants as measured_as
+use Rattle.model.specs.Numbers.{answered, value_of}
 use Rattle.model.specs.Sectors.{cells}
 use Rattle.model.specs.Accepted.{Accepted}
 use Rattle.model.specs.Store.{u16_bytes, measures_at, decode, entry_count, entry_number, entry_cost, is_named, named_cells, file_of, file_in, base_in}
-use Rattle.model.specs.Calls.{or_else, if_accepted, measured, check_number, entry_off, entry_again, read_number, read_answer, read_into}
-use Rattle.model.specs.Calls.{write_number, wrote, write_answer, write_into, written_length}
+use Rattle.model.specs.Calls.{or_else, if_accepted, check_number, entry_off, entry_again, read_number, read_answer, read_into}
+use Rattle.model.specs.Calls.{write_number, write_answer, write_into}
 use Rattle.model.specs.U16s.{length_u16s, low_byte, high_byte, u16_of, u16_past}
 use Rattle.model.specs.StoreLayout.{decode_laid}
 use Rattle.model.specs.Checked.{checked}
@@ -213,12 +213,12 @@ module _ (st : List ℕ) (e : check_number st ≡ 0) where
 
   -- "Reading the written file gives these back": accepted with a list of the right length, it gives the store's sizes and scale, and fills the list with its base costs
   pub reads_back : (list : List ℕ) → length list ≡ cells (measures_at st)
-      → (read_answer (file_in st) (length list) ≡ measured_as.Accepted (measures_at st)) × (read_into (file_in st) list ≡ (decode st).base)
-  unfolding read_answer read_into measured if_accepted refuse
+      → (read_answer (file_in st) (length list) ≡ Ok (measures_at st)) × (read_into (file_in st) list ≡ (decode st).base)
+  unfolding read_answer read_into answered if_accepted refuse
   reads_back list right =
       let ok : read_number (file_in st) (length list) ≡ 0 = length_decides (length list) ∙ rw (eq-eqb (length list) (cells (measures_at st)) right) in
       let back : base_in (file_in st) (length list) ≡ (decode st).base = rw (right ∙ sym long_base) (file_gives stored_file (checked st e).measures long_base) in
-      (rw ok (ap measured_as.Accepted stored_file.measures), rw ok back)
+      (rw ok (rw stored_file.measures refl), rw ok back)
 
   -- the longest: one entry for each of 10,000 cells
   pub file_most : length (file_in st) ≤ 30005
@@ -230,8 +230,8 @@ module _ (st : List ℕ) (e : check_number st ≡ 0) where
   room_enough room h = rw (e, le-ltb room (length (file_in st)) (omega (arith, file_most)))
 
 -- what write file leaves begins with the file, as long as it answers
-pub written_front : (st out : List ℕ) → write_number st (length out) ≡ 0 → take (written_length (write_answer st (length out))) (write_into st out) ≡ file_in st
-unfolding write_answer write_into wrote if_accepted
+pub written_front : (st out : List ℕ) → write_number st (length out) ≡ 0 → take (value_of 0 (write_answer st (length out))) (write_into st out) ≡ file_in st
+unfolding write_answer write_into answered if_accepted
 written_front st out e = rw e (take-append_seam (file_in st) (drop (length (file_in st)) out))
 
 -- "two stores have the same file if and only if these are equal"

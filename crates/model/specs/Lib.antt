@@ -36,6 +36,7 @@ pub mod Account
 pub mod Store
 pub mod U16s
 pub mod StoreLayout
+pub mod Numbers
 pub mod Calls
 pub mod Refusals
 pub mod Checked

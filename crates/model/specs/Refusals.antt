@@ -1,22 +1,22 @@
 -- What a number above 0 does: no later test is asked, it is the answer, and what is lent stays as it was; and what 0 does.
-use Rattle.std.specs.Prelude.{◌≡◌, refl, ℕ, zero, suc, ◌≤◌, ◌<◌}
-use Rattle.std.proofs.Common.{ap, ◌∙◌, arith}
-use Rattle.model.specs.declared.Measures.{Measures}
-use Rattle.model.specs.declared.Measured.TheVariants.{Refused}
-use Rattle.model.specs.Calls.{or_else, if_accepted, measured}
+use Rattle.std.specs.Prelude.{◌≡◌, refl, ℕ, zero, suc, ◌<◌}
+use Rattle.std.proofs.Common.{sym, ◌∙◌, arith}
+use Rattle.model.specs.declared.Refusal.{Refusal}
+use Rattle.model.specs.Numbers.{number, some_number}
+use Rattle.model.specs.Calls.{or_else, if_accepted}
 
 pub refused_first : (r rest : ℕ) → 0 < r → r ≡ or_else r rest
 unfolding or_else
 refused_first zero rest h = absurd (omega arith)
 refused_first (suc r) rest h = refl
 
-pub earlier : (n v rest : ℕ) → 0 < n → n ≡ v → n ≡ or_else v rest
-earlier n v rest h e = e ∙ refused_first v rest (omega arith)
+pub earlier : (r : Refusal) (v rest : ℕ) → number r ≡ v → number r ≡ or_else v rest
+earlier r v rest e = e ∙ refused_first v rest (omega (arith, some_number r))
 
 -- 0 asks it, and then it decides
-pub later : (n v rest r : ℕ) → r ≡ v → r ≤ 0 → n ≡ rest → n ≡ or_else v rest
+pub later : (n v rest : ℕ) → 0 ≡ v → n ≡ rest → n ≡ or_else v rest
 unfolding or_else
-later n v rest r e l h = let z : v ≡ 0 = omega arith in simp z h
+later n v rest z h = simp (sym z) h
 
 pub neither_refused : (n rest : ℕ) → or_else n rest ≡ 0 → (n ≡ 0) × (rest ≡ 0)
 unfolding or_else
@@ -27,11 +27,3 @@ pub not_accepted : {A : Type 0} (n : ℕ) (new old : A) → 0 < n → old ≡ if
 unfolding if_accepted
 not_accepted zero new old h = absurd (omega arith)
 not_accepted (suc n) new old h = refl
-
-pub refused : (n k : ℕ) (m : Measures) → 0 < n → n ≡ k → Refused n ≡ measured k m
-unfolding measured
-refused zero k m h e = absurd (omega arith)
-refused (suc n) k m h e = ap (λ (x : ℕ). measured x m) e
-
-pub none : {r : ℕ} → r ≤ 0 → r ≡ 0
-none h = omega arith

@@ -2,6 +2,9 @@
 
 #![tactic(auto)]
 
+ghost use Rattle.std.specs.Prelude.{◌≡◌};
+ghost use Rattle.model.specs.Numbers.{number};
+
 // Item 1: a cell of a sector, column and row 0 to 9.
 #[derive(Clone, Copy)]
 pub struct FieldCell {
@@ -89,31 +92,53 @@ pub struct BorderCells {
     pub facing: [FieldCell; 10],
 }
 
-// What plan and read file answer.
-#[derive(Clone, Copy)]
-pub enum Measured {
-    Accepted(Measures),
-    Refused(u8),
+// Why a call is refused, by 01's and 02's numbers.
+#[derive(Clone, Copy, Debug, PartialEq, Eq)]
+pub enum Refusal {
+    NotFinite = 1,
+    Size = 2,
+    Radius = 3,
+    Unit = 4,
+    BelowOneSector = 5,
+    RadiusOfSector = 6,
+    ScaleOfTen = 7,
+    ScaleOfZero = 8,
+    AboveTenSectors = 9,
+    FileUnderFive = 10,
+    Sectors = 11,
+    Scale = 12,
+    EntryCount = 13,
+    FileLength = 14,
+    EntryNumber = 15,
+    ListLength = 16,
+    BaseLength = 17,
+    StoreLength = 18,
+    FourthByte = 19,
+    Mark = 20,
+    FloorNumber = 21,
+    MoreWindows = 22,
+    Source = 23,
+    Goal = 24,
+    StepRoom = 25,
+    Sector = 26,
+    WindowRoom = 27,
+    EntryAgain = 28,
+    FileRoom = 29,
 }
 
-// What route answers: the count of its steps, leg and run.
-#[derive(Clone, Copy)]
-pub enum Routed {
-    Route { steps: u32, leg: u32, run: u32 },
-    NoRoute,
-    Refused(u8),
+impl Refusal {
+    // The number, which is what C is answered and what is printed.
+    pub fn number(self) -> u8
+        ensures { result ≡ number self }
+    {
+        self as u8
+    }
 }
 
-// What windows answers: how many there are.
-#[derive(Clone, Copy)]
-pub enum Listed {
-    Windows(u8),
-    Refused(u8),
-}
-
-// What write file answers: how many bytes the file has.
-#[derive(Clone, Copy)]
-pub enum Written {
-    File(u32),
-    Refused(u8),
+// A route that was found: the count of its steps, leg and run.
+#[derive(Clone, Copy, Debug, PartialEq, Eq)]
+pub struct Route {
+    pub steps: u32,
+    pub leg: u32,
+    pub run: u32,
 }

@@ -4,25 +4,13 @@ ghost use Rattle.model.specs.Sectors.{sector_at, place_of};
 ghost use Rattle.model.specs.Steps.{last_step, step_bytes, flat_steps};
 ghost use Rattle.model.specs.Portals.{is_portal};
 ghost use Rattle.model.specs.Route.{step_at, steps_of};
-ghost use Rattle.model.specs.Calls.{routed_steps};
 ghost use Rattle.store.specs.Stored.{stored};
 ghost use Rattle.path.specs.PortalPaths.{PortalPath};
 
 use fields::sectors::SECTOR_CELLS;
 use graph::portals::{midpoint, portal_sector, window_of_portal};
-use model::{Measures, RouteStep, Routed, SectorID};
+use model::{Measures, RouteStep, SectorID};
 use store::opened::Opened;
-
-// How many steps an answer has.
-pub fn steps_of(answer: Routed) -> usize
-    ensures { result ≡ routed_steps answer }
-{
-    match answer {
-        Routed::Route { steps, leg, run } => steps as usize,
-        Routed::NoRoute => 0,
-        Routed::Refused(n) => 0,
-    }
-}
 
 // How many steps a path of n portals has, n at least 1: the even positions before the last, and the last.
 pub fn step_count(n: usize) -> usize

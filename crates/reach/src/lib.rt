@@ -2,56 +2,63 @@
 #![tactic(auto)]
 
 ghost use Rattle.std.specs.Prelude.{◌≡◌, ◌/◌, length};
+ghost use Rattle.model.specs.Numbers.{number_of};
 ghost use Rattle.model.specs.Calls.{measures_of, build_number, store_after_call, store_after};
 ghost use Rattle.reach.specs.Reach.{call_of, calls_in, steps_after_call, steps_after, reach_into, reach_steps, Reaches};
 
 use hall::build::build;
 use hall::change::change;
 use hall_route::route;
+use model::Refusal;
 
-// Makes one call: kind 0 changes the cell of floor number a to the low byte of b, any other kind asks for a route from a to b. What the call answers is not kept.
-fn make_call(kind: u32, a: u32, b: u32, st: &mut [u8], steps: &mut [u8])
-    ensures store { st.new ≡ store_after_call st.old (call_of (length steps.old / 6) kind a b) }
-    ensures steps { steps.new ≡ steps_after_call st.old (call_of (length steps.old / 6) kind a b) steps.old }
-{
-    if kind == 0 {
-        change(st, a as usize, (b % 256) as u8);
-        return;
-    }
-    route(st, a as usize, b as usize, steps);
+// A call that is made on a store: a change of a cell's cost, or a route call.
+#[derive(Clone, Copy, Debug, PartialEq, Eq)]
+pub enum HallCall {
+    Change { cell: usize, cost: u8 },
+    Route { source: usize, goal: usize },
 }
 
-// Makes the calls of a list in turn, three numbers a call.
-fn make_calls(calls: &[u32], st: &mut [u8], steps: &mut [u8])
+// Makes one call. What it answers is not kept.
+fn make_call(call: HallCall, st: &mut [u8], steps: &mut [u8])
+    ensures store { st.new ≡ store_after_call st.old (call_of (length steps.old / 6) call) }
+    ensures steps { steps.new ≡ steps_after_call st.old (call_of (length steps.old / 6) call) steps.old }
+{
+    match call {
+        HallCall::Change { cell, cost } => {
+            let _ = change(st, cell, cost);
+        }
+        HallCall::Route { source, goal } => {
+            let _ = route(st, source, goal, steps);
+        }
+    }
+}
+
+// Makes the calls of a list in turn.
+fn make_calls(calls: &[HallCall], st: &mut [u8], steps: &mut [u8])
     ensures store { st.new ≡ store_after st.old (calls_in (length steps.old / 6) calls.now) }
     ensures steps { steps.new ≡ steps_after st.old (calls_in (length steps.old / 6) calls.now) steps.old }
 {
-    let mut at = 0;
-    while 3 <= calls.len() - at {
-        make_call(calls[at], calls[at + 1], calls[at + 2], st, steps);
-        at += 3;
+    for call in calls {
+        make_call(*call, st, steps);
     }
 }
 
-// Builds a hall in a store and makes the calls of a list in turn on it. Gives build's number; where that is not 0, no call is made.
+// Builds a hall in a store and makes the calls of a list in turn on it. Where build refuses, no call is made.
 pub fn reach(
     columns: u8,
     rows: u8,
     scale: u8,
     base: &[u8],
-    calls: &[u32],
+    calls: &[HallCall],
     st: &mut [u8],
     steps: &mut [u8],
-) -> u8
-    ensures answer { result ≡ build_number (measures_of columns rows scale) base.now st.old }
+) -> Result<(), Refusal>
+    ensures answer { number_of result ≡ build_number (measures_of columns rows scale) base.now st.old }
     ensures store { st.new ≡ reach_into (measures_of columns rows scale) base.now st.old (calls_in (length steps.old / 6) calls.now) }
     ensures steps { steps.new ≡ reach_steps (measures_of columns rows scale) base.now st.old (calls_in (length steps.old / 6) calls.now) steps.old }
     ensures reached { Reaches (measures_of columns rows scale) base.now st.old (calls_in (length steps.old / 6) calls.now) st.new }
 {
-    let number = build(columns, rows, scale, base, st);
-    if 0 < number {
-        return number;
-    }
+    build(columns, rows, scale, base, st)?;
     make_calls(calls, st, steps);
-    0
+    Ok(())
 }

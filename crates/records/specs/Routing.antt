@@ -3,7 +3,7 @@ use Prim.Native.Nat.{ℕ, zero, suc, ◌/◌, ◌≤◌, ◌<◌, min}
 use native.Mathlib.Omega.{arith}
 use Rattle.std.specs.Prelude.{◌≡◌, ◌⊎◌}
 use Rattle.std.proofs.Math.Path.{refl, sym, ap}
-use Rattle.std.proofs.Common.{◌∙◌, inl, inr}
+use Rattle.std.proofs.Common.{◌∙◌, inl, inr, subst}
 use mathlib.Core.List.{List, [], ◌++◌, append_assoc}
 use Rattle.std.proofs.Math.Dec.{ltb}
 use Rattle.std.proofs.Math.ListN.{length, drop}
@@ -11,12 +11,13 @@ use borrow.Author.Tests.{ltb-false, le-ltb}
 use Rattle.laws.specs.Ladder.{passed}
 use Rattle.laws.specs.Graph.{below_or}
 use Rattle.model.specs.declared.RouteStep.{RouteStep}
-use Rattle.model.specs.declared.Routed.{Routed}
+use Rattle.model.specs.Numbers.{answered}
 use Rattle.model.specs.Steps.{flat_steps}
 use Rattle.model.specs.FlatSteps.{steps_in, no_steps_in, steps_back}
 use Rattle.model.specs.Route.{Found, route, none, route_of}
 use Rattle.model.specs.Store.{decode}
-use Rattle.model.specs.Calls.{or_else, if_accepted, check_number, step_list, found_number, route_number, routed, routed_steps, route_answer, route_steps, route_flat}
+use Rattle.model.specs.Calls.{or_else, if_accepted, check_number, step_list, found_number, route_number, outcome, Routed, routed, routed_steps, route_steps, route_flat}
+use Rattle.model.specs.Answers.{RoutedAs, RouteAnswers}
 use Rattle.model.specs.Checked.{checked}
 use Rattle.model.specs.FewSteps.{few_steps}
 use Rattle.graph.specs.EdgeTable.{checked_fits}
@@ -57,40 +58,40 @@ module _ (st : List ℕ) (source goal : ℕ) where
     pub holds : steps_in (routed_steps answer) flat ≡ if_accepted (route_number st source goal room) (step_list found) []
 
   counted : (n : ℕ) (f : Found) (room : ℕ) → (n ≡ 0 → (length (step_list f) ≤ room) × (length (step_list f) ≤ 1001)) → (routed_steps (routed n f) ≤ room) × (routed_steps (routed n f) ≤ 1001)
-  unfolding routed step_list
+  unfolding answered outcome step_list
   counted zero (route steps leg run) room fits = fits refl
   counted zero none room fits = (omega arith, omega arith)
   counted (suc n) f room fits = (omega arith, omega arith)
 
   fronted : (n : ℕ) (f : Found) (tail old rest : List ℕ) → steps_in (routed_steps (routed n f)) (if_accepted n (flat_steps (step_list f) ++ tail) old ++ rest) ≡ if_accepted n (step_list f) []
-  unfolding routed step_list if_accepted
+  unfolding answered outcome step_list if_accepted
   fronted zero (route steps leg run) tail old rest = ap (steps_in (length steps)) (append_assoc (flat_steps steps) tail rest) ∙ steps_back steps (tail ++ rest)
   fronted zero none tail old rest = no_steps_in _
   fronted (suc n) f tail old rest = no_steps_in _
 
   -- a route call on the part of a flat list that is room enough
-  pub flatly : (part rest : List ℕ) {room cut : ℕ} {answer : Routed} {new flat : List ℕ} → cut ≡ min room 1001 → length part / 6 ≡ cut → answer ≡ route_answer st source goal (length part / 6)
+  pub flatly : (part rest : List ℕ) {room cut : ℕ} {answer : Routed} {new flat : List ℕ} → cut ≡ min room 1001 → length part / 6 ≡ cut → RouteAnswers st source goal (length part / 6) answer
       → new ≡ route_flat st source goal part → flat ≡ new ++ rest
-      → (answer ≡ route_answer st source goal room) × Flatly room answer flat
-  unfolding route_answer route_flat
+      → RouteAnswers st source goal room answer × Flatly room answer flat
+  unfolding route_flat
   flatly part rest {room} {cut} {answer} {new} {flat} c long is came all =
       let bytes : List ℕ = flat_steps (step_list found) in
       let same : route_number st source goal (length part / 6) ≡ route_number st source goal room = ap (route_number st source goal) long ∙ same_number room cut c in
-      let number : answer ≡ routed (route_number st source goal room) found = is ∙ ap (λ (k : ℕ). routed k found) same in
+      let is_same : RouteAnswers st source goal room answer = subst (λ (k : ℕ). RoutedAs k found answer) same is in
       let written : flat ≡ if_accepted (route_number st source goal room) (bytes ++ drop (length bytes) part) part ++ rest =
       all ∙ ap (λ (l : List ℕ). l ++ rest) (came ∙ ap (λ (k : ℕ). if_accepted k (bytes ++ drop (length bytes) part) part) same) in (
-        number,
-        rw (number, written)
+        is_same,
+        rw (is_same.case_is, written)
             (record { fit = counted (route_number st source goal room) found room (steps_fit room); holds = fronted (route_number st source goal room) found (drop (length bytes) part) part rest }),
       )
 
   -- the records that are written from it
-  pub recorded : {answer : Routed} {flat : List ℕ} (list : List RouteStep) → answer ≡ route_answer st source goal (length list) → Flatly (length list) answer flat
+  pub recorded : {answer : Routed} {flat : List ℕ} (list : List RouteStep) → RouteAnswers st source goal (length list) answer → Flatly (length list) answer flat
       → steps_in (routed_steps answer) flat ++ drop (routed_steps answer) list ≡ route_steps st source goal list
-  unfolding route_answer route_steps routed step_list if_accepted
+  unfolding route_steps answered outcome step_list if_accepted
   recorded {answer} list is f =
       ap (λ (l : List RouteStep). l ++ drop (routed_steps answer) list) f.holds
-      ∙ ap (λ (a : Routed). if_accepted (route_number st source goal (length list)) (step_list found) [] ++ drop (routed_steps a) list) is ∙ go (route_number st source goal (length list)) found
+      ∙ ap (λ (a : Routed). if_accepted (route_number st source goal (length list)) (step_list found) [] ++ drop (routed_steps a) list) is.case_is ∙ go (route_number st source goal (length list)) found
     where
       go : (n : ℕ) (o : Found) → if_accepted n (step_list o) [] ++ drop (routed_steps (routed n o)) list ≡ if_accepted n (step_list o ++ drop (length (step_list o)) list) list
       go zero (route steps leg run) = refl

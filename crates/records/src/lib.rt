@@ -1,48 +1,59 @@
 // The route call with a lent list of step records: document 01, "Steps go to a lent list of step records".
 #![tactic(auto)]
 
-ghost use Rattle.std.specs.Prelude.{◌≡◌, ◌++◌, ◌*◌, ◌≤◌, min, length, drop};
+ghost use Rattle.std.specs.Prelude.{◌≡◌, ◌++◌, ◌*◌, ◌≤◌, length, drop};
 ghost use Rattle.model.specs.FlatSteps.{steps_in};
-ghost use Rattle.model.specs.Calls.{route_answer, route_steps};
+ghost use Rattle.model.specs.Calls.{routed_steps, route_steps};
 ghost use Rattle.model.specs.Answers.{RouteAnswers};
 ghost use Rattle.records.specs.Routing.{Flatly};
 
 use fields::steps::step_in;
 use hall_route::route;
-use model::{RouteStep, Routed};
-use path::steps::steps_of;
+use model::{Refusal, Route, RouteStep};
 
 // The first n steps of a flat list go to the first n records; the others stay.
 fn write_records(flat: &[u8], n: usize, list: &mut [RouteStep])
     requires { (n ≤ length list.old) × (6 * n ≤ length flat.now) }
     ensures { list.new ≡ steps_in n flat.now ++ drop n list.old }
 {
-    let mut i = 0;
-    while i < n {
+    for i in 0..n {
         list[i] = step_in(flat, i);
-        i += 1;
     }
 }
 
-// How many steps a flat list has to hold for so many records: a route has at most 1,001.
-fn steps_room(records: usize) -> usize
-    ensures { result ≡ min records 1001 }
+// How many steps an answer has.
+fn steps_of(answer: Result<Option<Route>, Refusal>) -> usize
+    ensures { result ≡ routed_steps answer }
 {
-    if records < 1001 { records } else { 1001 }
+    match answer {
+        Ok(Some(route)) => route.steps as usize,
+        _ => 0,
+    }
 }
 
-// The route call for so many records, its steps in front of a flat list.
-fn flat_route(st: &[u8], source: usize, goal: usize, records: usize, flat: &mut [u8]) -> Routed
+// The route call for so many records, its steps in front of a flat list, which has room for the 1,001 that a route has at most.
+fn flat_route(
+    st: &[u8],
+    source: usize,
+    goal: usize,
+    records: usize,
+    flat: &mut [u8],
+) -> Result<Option<Route>, Refusal>
     requires { length flat.old ≡ 6006 }
-    ensures answer { result ≡ route_answer st.now source goal records }
+    ensures answer { RouteAnswers st.now source goal records result }
     ensures steps { Flatly st.now source goal records result flat.new }
 {
-    let bytes = 6 * steps_room(records);
+    let bytes = 6 * records.min(1001);
     route(st, source, goal, &mut flat[..bytes])
 }
 
 // Finds the route from one cell to another and writes its steps to the first records of a list. A refusal and "none" leave the list as it was.
-pub fn route_records(st: &[u8], source: usize, goal: usize, list: &mut [RouteStep]) -> Routed
+pub fn route_records(
+    st: &[u8],
+    source: usize,
+    goal: usize,
+    list: &mut [RouteStep],
+) -> Result<Option<Route>, Refusal>
     ensures answer { RouteAnswers st.now source goal (length list.old) result }
     ensures steps { list.new ≡ route_steps st.now source goal list.old }
 {

@@ -3,15 +3,14 @@ use Rattle.std.specs.Prelude.{if◌then◌else◌, Some, None, ℕ, ◌+◌, ◌
 use Rattle.std.proofs.Common.{arith, sym, ◌∙◌, length-append, length-drop, take_at, lt-ltb, le-ltb}
 use Rattle.std.proofs.Math.Path.{refl, ap}
 use Rattle.std.proofs.Math.Bool.{true, false}
-use Rattle.std.proofs.Math.Option.{Option}
+use Rattle.std.proofs.Math.Option.{Option as MathOption}
 use Rattle.std.proofs.Math.Dec.{ltb}
 use Rattle.std.proofs.Math.ListN.{length}
 use Rattle.laws.specs.Fold.{pick}
 use Rattle.laws.specs.Options.{some_if, none_if}
 use Rattle.model.specs.declared.Measures.{Measures}
 use Rattle.model.specs.declared.RouteStep.{RouteStep}
-use Rattle.model.specs.declared.Routed.{Routed}
-use Rattle.model.specs.declared.Routed.TheVariants as routed_as
+use Rattle.model.specs.declared.Route.{Route}
 use Rattle.model.specs.Sectors.{sectors, sector_at, sector_of, place_of}
 use Rattle.model.specs.Steps.{last_step, flat_steps}
 use Rattle.model.specs.Moves.{moves_to, joined}
@@ -20,22 +19,21 @@ use Rattle.model.specs.Portals.{sector_portals, portal_count, place_portal, key_
 use Rattle.model.specs.LeastPath.{unlinked, keys_to, cost_of_key, least_path}
 use Rattle.model.specs.PortalCrossings.{Fits}
 use Rattle.model.specs.Route.{Found, none, route, end_of, run_of, steps_of, chosen_pair, through_pair, through_portals, one_step, route_of}
-use Rattle.model.specs.Calls.{step_list, routed}
+use Rattle.model.specs.Calls.{step_list, outcome}
 use Rattle.graph.specs.Near.{leg_moves, last_moves_lem, near_portal}
 use Rattle.choice.specs.Choosing.{Chosen, leg_at, last_at}
 use Rattle.path.specs.PortalPaths.{PortalPath, least_portal_path}
 use Rattle.model.specs.FewSteps.{length_steps}
 use Rattle.path.specs.Stepping.{length_flat}
 
--- what was found, as an answer that refuses nothing
-unfoldable pub found_answer : Found → Routed
-found_answer found = routed 0 found
-
--- and its steps in the list, where that has room for all of them
+-- the steps of what was found in the list, where that has room for all of them
 unfoldable pub found_into : Found → List ℕ → List ℕ
 found_into found list =
     let bytes = flat_steps (step_list found) in
     pick (ltb (length list / 6) (length (step_list found))) list (bytes ++ drop (length bytes) list)
+
+abbrev pub a_found : ℕ → ℕ → ℕ → Option Route
+a_found steps leg run = Some (record { steps = steps; leg = leg; run = run })
 
 -- the route of one step
 abbrev pub last_route : Measures → ℕ → ℕ → Found
@@ -43,25 +41,25 @@ last_route m goal moves = route (last_step (sector_at m (sector_of goal)) (place
 
 -- ---- a route, with and without room
 module _ (steps : List RouteStep) (leg run : ℕ) (list : List ℕ) where
-  pub no_room : {n : ℕ} → length steps ≡ n → length list / 6 < n → (routed_as.Route n leg run ≡ found_answer (route steps leg run)) × (list ≡ found_into (route steps leg run) list)
-  unfolding found_answer found_into step_list routed
+  pub no_room : {n : ℕ} → length steps ≡ n → length list / 6 < n → (a_found n leg run ≡ outcome (route steps leg run)) × (list ≡ found_into (route steps leg run) list)
+  unfolding outcome found_into step_list
   no_room e l = let t : ltb (length list / 6) (length steps) ≡ true = rw e (lt-ltb (length list / 6) _ l) in rw (t, e) (refl, refl)
 
   pub written_steps : {n : ℕ} {new : List ℕ} → length steps ≡ n → n ≤ length list / 6 → new ≡ flat_steps steps ++ drop (6 * n) list
-      → (routed_as.Route n leg run ≡ found_answer (route steps leg run)) × (new ≡ found_into (route steps leg run) list)
-  unfolding found_answer found_into step_list routed
+      → (a_found n leg run ≡ outcome (route steps leg run)) × (new ≡ found_into (route steps leg run) list)
+  unfolding outcome found_into step_list
   written_steps {n} {new} e l came =
       let t : ltb (length list / 6) (length steps) ≡ false = rw e (le-ltb (length list / 6) n l) in
       let bytes : length (flat_steps steps) ≡ 6 * n = length_flat steps ∙ ap (λ (k : ℕ). 6 * k) e in
       rw (t, bytes, e) (refl, came)
 
 -- ---- none
-none_is : (list : List ℕ) {found : Found} → found ≡ none → (routed_as.NoRoute ≡ found_answer found) × (list ≡ found_into found list)
-unfolding found_answer found_into step_list routed flat_steps
+none_is : (list : List ℕ) {found : Found} → found ≡ none → (None ≡ outcome found) × (list ≡ found_into found list)
+unfolding outcome found_into step_list flat_steps
 none_is list e = rw (e, le-ltb (length list / 6) 0 (omega arith)) (refl, refl)
 
-pub none_found : (h : Hall) (source goal : ℕ) (list : List ℕ) → chosen_pair h (portal_graph h) source goal ≡ Option.none
-    → (routed_as.NoRoute ≡ found_answer (through_portals h (portal_graph h) source goal)) × (list ≡ found_into (through_portals h (portal_graph h) source goal) list)
+pub none_found : (h : Hall) (source goal : ℕ) (list : List ℕ) → chosen_pair h (portal_graph h) source goal ≡ MathNone
+    → (None ≡ outcome (through_portals h (portal_graph h) source goal)) × (list ≡ found_into (through_portals h (portal_graph h) source goal) list)
 unfolding through_portals through_pair
 none_found h source goal list e = none_is list (ap (through_pair h (portal_graph h) source goal) e)
 
@@ -111,13 +109,13 @@ module _ (h : Hall) where
     -- the answer and the list, with and without room
     module _ (goal leg last : ℕ) (list : List ℕ) {steps : ℕ} (count : steps ≡ n / 2 + 1) where
       pub pair_no_room : length list / 6 < steps
-          → (routed_as.Route steps leg (get_or keys p 0 / key_step + last) ≡ found_answer (pair_route goal p e leg last)) × (list ≡ found_into (pair_route goal p e leg last) list)
+          → (a_found steps leg (get_or keys p 0 / key_step + last) ≡ outcome (pair_route goal p e leg last)) × (list ≡ found_into (pair_route goal p e leg last) list)
       pair_no_room l =
           let r = no_room (steps_of h goal true (pair_path p e)) leg (cost_of_key (get_or (keys_to (portal_graph h) e) p 0) + last) list (taken_steps goal ∙ sym count) l in
           (rw is r.0, r.1)
 
       pub pair_written : {new : List ℕ} → steps ≤ length list / 6 → new ≡ flat_steps (steps_of h goal true (take n nodes)) ++ drop (6 * (n / 2 + 1)) list
-          → (routed_as.Route steps leg (get_or keys p 0 / key_step + last) ≡ found_answer (pair_route goal p e leg last)) × (new ≡ found_into (pair_route goal p e leg last) list)
+          → (a_found steps leg (get_or keys p 0 / key_step + last) ≡ outcome (pair_route goal p e leg last)) × (new ≡ found_into (pair_route goal p e leg last) list)
       pair_written l came =
           let r = written_steps (steps_of h goal true (pair_path p e)) leg (cost_of_key (get_or (keys_to (portal_graph h) e) p 0) + last) list (taken_steps goal ∙ sym count) l (came ∙ rw (taken, ← count)) in
           (rw is r.0, r.1)

@@ -3,9 +3,10 @@ ghost use Rattle.std.specs.Prelude.{◌≡◌, ◌*◌, ◌/◌, ◌≤◌, ◌<
 ghost use Rattle.model.specs.Sectors.{sectors, cells};
 ghost use Rattle.model.specs.Portals.{portal_count, arc_count, portal_graph};
 ghost use Rattle.model.specs.Route.{through_portals, route_of};
+ghost use Rattle.model.specs.Calls.{outcome};
 ghost use Rattle.store.specs.Stored.{stored};
 ghost use Rattle.path.specs.Following.{Linked};
-ghost use Rattle.route.specs.Finding.{found_answer, found_into, last_route, Paired, pair_route};
+ghost use Rattle.route.specs.Finding.{found_into, last_route, Paired, pair_route};
 
 use choice::pair::choose_pair;
 use fields::sectors::{SECTOR_CELLS, sectors};
@@ -13,23 +14,23 @@ use graph::edges::KEY_STEP;
 use graph::near::{moves_to, portal_moves};
 use graph::portals::{HALL_ARCS, HALL_PORTALS, SECTOR_ARCS, SECTOR_PORTALS};
 use graph::table::Edges;
-use model::{Measures, Routed};
+use model::{Measures, Route};
 use path::least::least_path;
 use path::steps::{step_count, write_last, write_steps};
 use search::keys::keys_to;
 use store::opened::Opened;
 
 // The route of one step, to a goal at these moves in the same sector.
-fn one_step(m: Measures, goal: usize, moves: u8, list: &mut [u8]) -> Routed
+fn one_step(m: Measures, goal: usize, moves: u8, list: &mut [u8]) -> Option<Route>
     requires { (1 ≤ m.rows) × (sectors m ≤ 100) × (goal < cells m) }
-    ensures answer { result ≡ found_answer (last_route m goal moves) }
+    ensures answer { result ≡ outcome (last_route m goal moves) }
     ensures steps { list.new ≡ found_into (last_route m goal moves) list.old }
 {
-    let found = Routed::Route {
+    let found = Some(Route {
         steps: 1,
         leg: 0,
         run: u32::from(moves),
-    };
+    });
     if list.len() / 6 < 1 {
         return found;
     }
@@ -48,20 +49,20 @@ fn through_pair(
     last: u8,
     keys: &mut [u32],
     list: &mut [u8],
-) -> Routed
+) -> Option<Route>
     requires { Linked hall.now edges (length keys.old) × Paired (stored hall.now) p e }
-    ensures answer { result ≡ found_answer (pair_route (stored hall.now) goal p e leg last) }
+    ensures answer { result ≡ outcome (pair_route (stored hall.now) goal p e leg last) }
     ensures steps { list.new ≡ found_into (pair_route (stored hall.now) goal p e leg last) list.old }
 {
     keys_to(edges, e, keys);
     let mut nodes = [0u16; HALL_PORTALS];
     let n = least_path(hall, edges, keys, p, &mut nodes);
     let steps = step_count(n);
-    let found = Routed::Route {
+    let found = Some(Route {
         steps: steps as u32,
         leg: u32::from(leg),
         run: keys[p] / KEY_STEP + u32::from(last),
-    };
+    });
     if list.len() / 6 < steps {
         return found;
     }
@@ -77,9 +78,9 @@ fn through_lists(
     table: &mut [u32],
     keys: &mut [u32],
     list: &mut [u8],
-) -> Routed
+) -> Option<Route>
     requires { (source < cells hall.now.store.measures) × (goal < cells hall.now.store.measures) × (length table.old ≡ arc_count hall.now.store.measures) × (length keys.old ≡ portal_count hall.now.store.measures) }
-    ensures answer { result ≡ found_answer (through_portals (stored hall.now) (portal_graph (stored hall.now)) source goal) }
+    ensures answer { result ≡ outcome (through_portals (stored hall.now) (portal_graph (stored hall.now)) source goal) }
     ensures steps { list.new ≡ found_into (through_portals (stored hall.now) (portal_graph (stored hall.now)) source goal) list.old }
 {
     let legs = portal_moves(hall, source);
@@ -88,7 +89,7 @@ fn through_lists(
     let p = source / SECTOR_CELLS * SECTOR_PORTALS;
     let q = goal / SECTOR_CELLS * SECTOR_PORTALS;
     let Some(pair) = choose_pair(edges, p, q, &legs, &lasts, keys) else {
-        return Routed::NoRoute;
+        return None;
     };
     through_pair(
         hall,
@@ -104,9 +105,9 @@ fn through_lists(
 }
 
 // The same in lists of its own.
-fn through_portals(hall: &Opened<'_>, source: usize, goal: usize, list: &mut [u8]) -> Routed
+fn through_portals(hall: &Opened<'_>, source: usize, goal: usize, list: &mut [u8]) -> Option<Route>
     requires { (source < cells hall.now.store.measures) × (goal < cells hall.now.store.measures) }
-    ensures answer { result ≡ found_answer (through_portals (stored hall.now) (portal_graph (stored hall.now)) source goal) }
+    ensures answer { result ≡ outcome (through_portals (stored hall.now) (portal_graph (stored hall.now)) source goal) }
     ensures steps { list.new ≡ found_into (through_portals (stored hall.now) (portal_graph (stored hall.now)) source goal) list.old }
 {
     let mut table = [0u32; HALL_ARCS];
@@ -124,9 +125,9 @@ fn through_portals(hall: &Opened<'_>, source: usize, goal: usize, list: &mut [u8
 }
 
 // The route from one cell to another, its steps at the front of a list.
-pub fn find_path(hall: &Opened<'_>, source: usize, goal: usize, list: &mut [u8]) -> Routed
+pub fn find_path(hall: &Opened<'_>, source: usize, goal: usize, list: &mut [u8]) -> Option<Route>
     requires { (source < cells hall.now.store.measures) × (goal < cells hall.now.store.measures) }
-    ensures answer { result ≡ found_answer (route_of (stored hall.now) source goal) }
+    ensures answer { result ≡ outcome (route_of (stored hall.now) source goal) }
     ensures steps { list.new ≡ found_into (route_of (stored hall.now) source goal) list.old }
 {
     match moves_to(hall, source, goal) {

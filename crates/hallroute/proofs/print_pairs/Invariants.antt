@@ -1,11 +1,12 @@
--- `print_pairs` ends: the bytes that are left fall, and the lists keep their lengths.
-use mathlib.Core.Path.{◌≡◌}
-use Prim.Native.Nat.{◌-◌}
-use lib.ListN.{length}
+-- `print_pairs`: what is printed, and the lines of what is left, are the lines of all pairs.
+use Rattle.std.proofs.Common.{◌≡◌, ◌++◌, List, ℕ, length}
+use Rattle.std.specs.Io.KnownBytes.{Appends}
+use Rattle.model.specs.Hallroute.{pair_lines}
 use Rattle.hallroute.proofs.print_pairs.Given as goal
 
-abbrev pub invariant-loop-at : goal.invariant-loop-at
-invariant-loop-at l = (length l.steps ≡ length l.initial.steps) × (length l.line ≡ length l.initial.line)
+abbrev pub invariant-loop-rest : goal.invariant-loop-rest
+invariant-loop-rest g l =
+    (done : List ℕ) × Appends (g.W.Write.contents l.initial.out) (g.W.Write.contents l.out) done × (pair_lines l.st l.pairs ≡ done ++ pair_lines l.st l.rest)
 
-abbrev pub decreases-loop-at : goal.decreases-loop-at
-decreases-loop-at l = length l.pairs - l.at
+abbrev pub decreases-loop-rest : goal.decreases-loop-rest
+decreases-loop-rest g l = length l.rest

@@ -1,11 +1,26 @@
 -- `route_after` is `reach` and then `route_reached`; the promises of both together are demand 3.
-use Rattle.journey.proofs.Asking.{journeying}
+use Rattle.journey.proofs.Asking.{refused_answer, refused_last, refused_keeps, asked_answer, asked_steps, asked_keeps}
 use Rattle.model.specs.Answers.{route_case}
 use borrow.Author.Rules.{rules}
 use Rattle.journey.proofs.route_after.Goals as goal
 
-pub returns-then-refusal-gt0 : goal.returns-then-refusal-gt0
-returns-then-refusal-gt0 c = record { answer = search (rules, journeying); store = search (rules, journeying); steps = search (rules, journeying); demand3 = search (rules, journeying) }
+pub returns-in_err-reach : goal.returns-in_err-reach
+returns-in_err-reach c =
+    let is = c.in_err-reach.ensures.answer in
+    let steps = c.args.steps.now in
+    record {
+      answer = refused_answer _ _ _ _ _ _ steps _ is _ c.from_residual.ensures.1;
+      store = search rules;
+      steps = refused_last _ _ _ _ _ _ _ _ is c.reach.ensures.steps;
+      demand3 = refused_keeps _ _ _ _ _ _ steps _ is _;
+    }
 
 pub returns : goal.returns
-returns c = record { answer = search (rules, journeying, route_case); store = search (rules, journeying); steps = search (rules, journeying); demand3 = search (rules, journeying) }
+returns c =
+    let is = c.in_ok-reach.ensures.answer in
+    record {
+      answer = asked_answer _ _ _ _ _ _ c.args.steps.now is c.reach.ensures.store _ (route_case _ _ _ _ c.route_reached.ensures.answer) (search rules);
+      store = search rules;
+      steps = asked_steps _ _ _ _ _ _ _ is c.reach.ensures.store c.reach.ensures.steps c.route_reached.ensures.steps;
+      demand3 = asked_keeps _ _ c.reach.ensures.reached c.route_reached.ensures.claim (search rules);
+    }

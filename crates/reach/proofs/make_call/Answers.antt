@@ -1,10 +1,13 @@
--- `make_call` leaves store and step list as the call of its kind does.
+-- `make_call` leaves store and step list as its call does.
+use Rattle.model.specs.Calls.{store_after_call}
+use Rattle.reach.specs.Reach.{call_of, steps_after_call}
 use borrow.Author.Rules.{rules}
-use Rattle.reach.proofs.Calling.{calling}
 use Rattle.reach.proofs.make_call.Goals as goal
 
-pub returns-then-kind-eq0 : goal.returns-then-kind-eq0
-returns-then-kind-eq0 c = search (rules, calling)
+pub returns-in-Change : goal.returns-in-Change
+unfolding store_after_call steps_after_call call_of
+returns-in-Change c = search rules
 
-pub returns : goal.returns
-returns c = search (rules, calling)
+pub returns-in-Route : goal.returns-in-Route
+unfolding store_after_call steps_after_call call_of
+returns-in-Route c = search rules

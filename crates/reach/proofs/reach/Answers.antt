@@ -1,11 +1,16 @@
--- `reach` gives build's number, leaves what build and the calls do, and the hall that it leaves is reached.
+-- `reach` is refused as build is, leaves what build and the calls do, and the hall that it leaves is reached.
+use Rattle.std.proofs.Common.{◌∙◌}
+use Rattle.model.specs.Numbers.{number_on}
 use Rattle.reach.specs.Reach.{into_reaches}
-use Rattle.reach.proofs.Calling.{reaching}
-use borrow.Author.Rules.{rules}
+use Rattle.reach.proofs.Calling.{refused_store, refused_steps, reached_store, reached_steps}
 use Rattle.reach.proofs.reach.Goals as goal
 
-pub returns-then-number-gt0 : goal.returns-then-number-gt0
-returns-then-number-gt0 c = record { answer = search (rules, reaching); store = search (rules, reaching); steps = search (rules, reaching); reached = into_reaches _ _ _ _ (search (rules, reaching)) }
+pub returns-in_err-build : goal.returns-in_err-build
+returns-in_err-build c =
+    let store = refused_store _ _ _ _ c.args.steps.now _ c.in_err-build.ensures.answer c.build.ensures.store in
+    record { answer = number_on _ _ c.from_residual.ensures.1 ∙ c.in_err-build.ensures.answer; store = store; steps = refused_steps _ _ _ _ _ _ c.in_err-build.ensures.answer; reached = into_reaches _ _ _ _ store }
 
 pub returns : goal.returns
-returns c = record { answer = search (rules, reaching); store = search (rules, reaching); steps = search (rules, reaching); reached = into_reaches _ _ _ _ (search (rules, reaching)) }
+returns c =
+    let store = reached_store _ _ _ _ c.args.steps.now c.in_ok-build.ensures.answer c.build.ensures.store c.make_calls.ensures.store in
+    record { answer = c.in_ok-build.ensures.answer; store = store; steps = reached_steps _ _ _ _ _ c.in_ok-build.ensures.answer c.build.ensures.store c.make_calls.ensures.steps; reached = into_reaches _ _ _ _ store }

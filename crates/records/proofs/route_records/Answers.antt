@@ -5,7 +5,6 @@ use mathlib.Core.List.{List, ◌++◌}
 use lib.ListN.{drop}
 use Rattle.model.specs.declared.RouteStep.{RouteStep}
 use Rattle.model.specs.FlatSteps.{steps_in}
-use Rattle.model.specs.Answers.{route_answers}
 use Rattle.records.specs.Routing.{recorded}
 use Rattle.records.proofs.route_records.Goals as goal
 
@@ -14,7 +13,7 @@ returns c =
     let list : List RouteStep = c.args.list.now in
     let flat : List ℕ = c.flat_route-answer.new.flat in
     record {
-      answer = route_answers c.args.st.now c.args.source c.args.goal _ c.flat_route-answer.ensures.answer;
+      answer = c.flat_route-answer.ensures.answer;
       steps = c.write_records.ensures ∙ ap (λ (k : ℕ). steps_in k flat ++ drop k list) c.steps_of.ensures
           ∙ recorded c.args.st.now c.args.source c.args.goal list c.flat_route-answer.ensures.answer c.flat_route-answer.ensures.steps;
     }

@@ -10,6 +10,7 @@ use Rattle.model.specs.declared.Measures.{Measures}
 use Rattle.model.specs.Sectors.{sectors, sector_of}
 use Rattle.model.specs.Portals.{sector_portals, place_portal, portal_count, portal_graph}
 use Rattle.model.specs.LeastPath.{unlinked}
+use Rattle.model.specs.Calls.{outcome}
 use Rattle.model.specs.Route.{Found, through_portals}
 use Rattle.store.specs.declared.opened.Opened.{Opened}
 use Rattle.store.specs.Stored.{stored}
@@ -20,7 +21,7 @@ use Rattle.graph.specs.Near.{portal_moves}
 use Rattle.choice.specs.Choosing.{sector_pairs, pair_run, run_at, Chosen, chosen_none, chosen_some}
 use Rattle.choice.specs.declared.places.Pair.{Pair}
 use Rattle.path.specs.Following.{Linked, graph_is}
-use Rattle.route.specs.Finding.{Paired, found_answer, found_into, pair_found, pair_paired, pair_route, none_found}
+use Rattle.route.specs.Finding.{Paired, outcome, found_into, pair_found, pair_paired, pair_route, none_found}
 use Rattle.route.proofs.find.through_lists.Goals as goal
 use Rattle.route.proofs.find.through_lists.Goals.{After-of_store-edges}
 
@@ -87,4 +88,4 @@ returns c =
     let call = c.through_pair in
     let link = linked (goal.at.returns c).After-of_store-edges refl in
     let f = found_is link c.args.source c.args.goal c.portal_moves-legs.ensures c.portal_moves-lasts.ensures c.in-Some.pair c.in-Some.ensures in
-    record { answer = call.ensures.answer ∙ ap found_answer (sym f); steps = call.ensures.steps ∙ ap (λ (x : Found). found_into x c.args.list.now) (sym f) }
+    record { answer = call.ensures.answer ∙ ap outcome (sym f); steps = call.ensures.steps ∙ ap (λ (x : Found). found_into x c.args.list.now) (sym f) }
