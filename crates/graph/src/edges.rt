@@ -9,7 +9,7 @@ ghost use Rattle.graph.specs.Near.{sector_mids};
 ghost use Rattle.graph.specs.Weights.{edge_by};
 
 use crate::near::{NO_CROSSING, moves_from, near_by, sector_mids, sector_words};
-use crate::portals::{SECTOR_PORTALS, facing, is_portal, portal_sector, portal_side};
+use crate::portals::{SECTOR_PORTALS, facing_in, is_portal, portal_sector, portal_side};
 use fields::sectors::{SECTOR_CELLS, neighbour, sectors};
 use model::Measures;
 use moves::spread::Spread;
@@ -27,10 +27,10 @@ fn outer_edge(st: &[u8], m: Measures, p: usize) -> u32
     requires { Opened m st.now × (p < portal_count m) }
     ensures { result ≡ outer_edge (decode st.now) p }
 {
-    if neighbour(m, portal_sector(p), portal_side(p)).is_none() {
+    let Some(t) = neighbour(m, portal_sector(p), portal_side(p)) else {
         return 0;
-    }
-    if is_portal(st, m, facing(m, p)) {
+    };
+    if is_portal(st, m, facing_in(t, p)) {
         FACING_KEY
     } else {
         0

@@ -1,7 +1,8 @@
 // Portals by number, read from a store that passes the check.
 ghost use Rattle.std.specs.Prelude.{◌≡◌, true, ◌*◌, ◌/◌, ◌≤◌, ◌<◌};
+ghost use Rattle.model.specs.Cells.{opposite};
 ghost use Rattle.model.specs.Sectors.{sector_cells, sectors};
-ghost use Rattle.model.specs.Portals.{sector_portals, hall_portals, portal_sector, portal_side, portal_window, portal_mark, is_portal, window_of, midpoint, facing, head_of};
+ghost use Rattle.model.specs.Portals.{portal_at, sector_portals, hall_portals, portal_sector, portal_side, portal_window, portal_mark, is_portal, window_of, midpoint, facing, head_of};
 ghost use Rattle.model.specs.Store.{decode};
 ghost use Rattle.graph.specs.EdgeTable.{Opened, bare};
 ghost use Rattle.graph.specs.Reading.{Places};
@@ -83,16 +84,21 @@ pub fn midpoint(st: &[u8], m: Measures, p: usize) -> usize
     usize::from(border_index(portal_side(p), (run.first + run.last) / 2))
 }
 
+// The portal of the same number on the facing side, which is in sector t.
+pub fn facing_in(t: usize, p: usize) -> usize
+    requires { t ≤ 110 }
+    ensures { result ≡ portal_at t (opposite (portal_side p)) (portal_window p) }
+{
+    t * SECTOR_PORTALS + opposite(portal_side(p)) as usize * SIDE_PORTALS + portal_window(p)
+}
+
 // The portal of the same number on the facing side.
 #[tactic(auto, unfolding(model::specs::Portals::facing))]
 pub fn facing(m: Measures, p: usize) -> usize
     requires { (m.rows ≤ 10) × (p < hall_portals) }
     ensures { result ≡ facing (bare m) p }
 {
-    let side = portal_side(p);
-    beyond(m, portal_sector(p), side) * SECTOR_PORTALS
-        + opposite(side) as usize * SIDE_PORTALS
-        + portal_window(p)
+    facing_in(beyond(m, portal_sector(p), portal_side(p)), p)
 }
 
 // The portal to which place c of portal p leads.
