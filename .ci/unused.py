@@ -138,11 +138,23 @@ def names_brought(lines):
     return out
 
 
+def names_attributed(path, lines):
+    """{(crate, module): names} that the attributes of a source name by their paths, as #[tactic(auto, using(crate::proofs::Words::grown_is))]."""
+    out = {}
+    for listed in re.findall(r"\b(?:using|unfolding)\(([^()]*)\)", "\n".join(lines)):
+        for crate, *module, name in (item.strip().split("::") for item in listed.split(",") if item.strip()):
+            own = path.relative_to(CRATES).parts[0] if crate == "crate" else crate
+            out.setdefault((own, ".".join(module)), set()).add(name)
+    return out
+
+
 def all_brought(lines):
     used = {}
     for path in lines:
-        for module, names in names_brought(lines[path]).items():
-            used.setdefault(module, set()).update(names)
+        attributed = names_attributed(path, lines[path]) if path.suffix == ".rt" else {}
+        for found in (names_brought(lines[path]), attributed):
+            for module, names in found.items():
+                used.setdefault(module, set()).update(names)
     return used
 
 

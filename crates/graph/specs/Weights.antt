@@ -1,5 +1,5 @@
 -- The edges of a portal in the cases that code meets, and that they are the graph's weights.
-use Rattle.std.specs.Prelude.{if◌then◌else◌, Some, None, ℕ, ◌≤◌, ◌<◌, ◌≡◌, Bool, true, false, ◌&&◌, List, ltb, eqb, length, get_or}
+use Rattle.std.specs.Prelude.{if◌then◌else◌, Some, None, ℕ, ◌≤◌, ◌<◌, ◌≡◌, Bool, true, false, List, ltb, eqb, length, get_or}
 use Rattle.std.proofs.Common.{arith, sym, ap, ◌∙◌}
 use Rattle.std.proofs.Math.Path.{refl}
 use borrow.Author.Tests.{lt-ltb, eq-eqb, ne_eqb}
@@ -20,7 +20,7 @@ use Rattle.model.specs.PortalCrossings.{Fits, mid_low}
 use Rattle.model.specs.PortalEdges.{weight_at}
 use Rattle.model.specs.Store.{decode}
 use Rattle.moves.specs.Levels.{moves_or_none}
-use Rattle.graph.specs.EdgeTable.{Opened, bare}
+use Rattle.graph.specs.EdgeTable.{Opened}
 use Rattle.graph.specs.Near.{mid_of, sector_mids, near_by, mid_some, mid_none}
 
 -- the edge to the facing portal q, by the sector t beyond

@@ -1,5 +1,5 @@
 -- What a route found becomes in the call's answer and in the lent list, and the cases in which code finds it.
-use Rattle.std.specs.Prelude.{if◌then◌else◌, Some, None, ℕ, ◌+◌, ◌*◌, ◌/◌, ◌%◌, ◌≤◌, ◌<◌, ◌≡◌, Bool, List, [], ◌∷◌, ◌++◌, get_or, take, drop}
+use Rattle.std.specs.Prelude.{if◌then◌else◌, Some, None, ℕ, ◌+◌, ◌*◌, ◌/◌, ◌%◌, ◌≤◌, ◌<◌, ◌≡◌, List, [], ◌∷◌, ◌++◌, get_or, take, drop}
 use Rattle.std.proofs.Common.{arith, sym, ◌∙◌, length-append, length-drop, take_at, lt-ltb, le-ltb}
 use Rattle.std.proofs.Math.Path.{refl, ap}
 use Rattle.std.proofs.Math.Bool.{true, false}
@@ -14,8 +14,7 @@ use Rattle.model.specs.declared.Routed.{Routed}
 use Rattle.model.specs.declared.Routed.TheVariants as routed_as
 use Rattle.model.specs.Sectors.{sectors, sector_at, sector_of, place_of}
 use Rattle.model.specs.Steps.{last_step, flat_steps}
-use Rattle.model.specs.Moves.{moves_to, joined, apart}
-use Rattle.model.specs.MovesFewest.{joined_is}
+use Rattle.model.specs.Moves.{moves_to, joined}
 use Rattle.model.specs.Halls.{Hall}
 use Rattle.model.specs.Portals.{sector_portals, portal_count, place_portal, key_step, is_portal, portal_graph}
 use Rattle.model.specs.LeastPath.{unlinked, keys_to, cost_of_key, least_path}

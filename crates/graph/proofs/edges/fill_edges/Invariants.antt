@@ -1,5 +1,5 @@
 -- `fill_edges` fills the table sector by sector. The loop's invariant: the weights of the sectors before s stand in it.
-use Prim.Native.Nat.{◌*◌, ◌≤◌}
+use Prim.Native.Nat.{◌*◌}
 use Rattle.model.specs.Store.{decode}
 use Rattle.model.specs.Portals.{sector_arcs}
 use Rattle.graph.specs.EdgeTable.{Filled}

@@ -1,7 +1,6 @@
 -- `fill_places` takes the edge at each place of one portal.
 use lib.ListN.{get_or}
-use Rattle.model.specs.Portals.{sector_portals, portal_place}
-use Rattle.moves.specs.Levels.{moves_in}
+use Rattle.model.specs.Portals.{portal_place}
 use Rattle.graph.specs.EdgeTable.{Row}
 use Rattle.graph.specs.Weights.{edge_by}
 use Rattle.graph.proofs.edges.fill_places.Given as goal

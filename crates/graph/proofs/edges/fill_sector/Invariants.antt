@@ -1,7 +1,5 @@
 -- `fill_sector` fills the table number by number. The loop's invariant: the weights of the sector's numbers before place c stand in it.
-use mathlib.Core.Path.{◌≡◌}
-use Prim.Native.Nat.{◌+◌, ◌*◌, ◌≤◌}
-use lib.ListN.{length}
+use Prim.Native.Nat.{◌+◌, ◌*◌}
 use Rattle.model.specs.Store.{decode}
 use Rattle.model.specs.Portals.{sector_portals, sector_arcs}
 use Rattle.graph.specs.EdgeTable.{Filled}

@@ -2,7 +2,6 @@
 use lib.ListN.{get_or}
 use Rattle.laws.specs.Table.{Tabled}
 use Rattle.model.specs.Portals.{sector_portals}
-use Rattle.moves.specs.Levels.{moves_in}
 use Rattle.graph.specs.Near.{near_by}
 use Rattle.graph.proofs.near.portal_moves.Given as goal
 

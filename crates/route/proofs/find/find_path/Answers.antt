@@ -1,5 +1,4 @@
 -- `find_path` takes the one step where the goal is joined to the source, and else a pair of portals.
-use native.Mathlib.Omega.{arith}
 use mathlib.Core.Path.{sym, ap, ◌∙◌}
 use Rattle.model.specs.declared.Measures.{Measures}
 use Rattle.model.specs.Route.{Found}
