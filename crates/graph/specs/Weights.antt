@@ -1,11 +1,11 @@
 -- The edges of a portal in the cases that code meets, and that they are the graph's weights.
-use Rattle.std.specs.Prelude.{if◌then◌else◌, Some, None, ℕ, ◌≤◌, ◌<◌, ◌≡◌, Bool, true, false, List, ltb, eqb, length, get_or}
+use Rattle.std.specs.Prelude.{if◌then◌else◌, Some, None, ℕ, ◌≤◌, ◌<◌, ◌≡◌, Bool, true, false, List, ltb, eqb, get_or}
 use Rattle.std.proofs.Common.{arith, sym, ap, ◌∙◌}
 use Rattle.std.proofs.Math.Path.{refl}
 use borrow.Author.Tests.{lt-ltb, eq-eqb, ne_eqb}
 use Rattle.laws.specs.Fold.{pick}
 use Rattle.laws.specs.Options.{some_if, none_if}
-use Rattle.laws.specs.Table.{length_tabulate, table_at}
+use Rattle.laws.specs.Table.{table_at}
 use Rattle.model.specs.declared.Measures.{Measures}
 use Rattle.model.specs.declared.Side.{Side}
 use Rattle.model.specs.Cells.{opposite}
@@ -69,10 +69,6 @@ inner_by h fits from q = go (is_portal h q) refl
 
 -- what the midpoints of its sector say of number p
 module _ (h : Hall) (p : ℕ) {mids : List ℕ} (given : mids ≡ sector_mids h (portal_sector p)) where
-  pub mids_long : length mids ≡ sector_portals
-  unfolding sector_mids
-  mids_long = rw given (length_tabulate (λ k. mid_of h (place_portal (portal_sector p) k)) sector_portals 0)
-
   place_mid : (c : ℕ) → c < sector_portals → get_or mids c 0 ≡ mid_of h (place_portal (portal_sector p) c)
   unfolding sector_mids
   place_mid c l = table_at (λ k. mid_of h (place_portal (portal_sector p) k)) sector_portals given c 0 l

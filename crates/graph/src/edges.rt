@@ -23,6 +23,7 @@ const FACING_KEY: u32 = KEY_STEP + 1;
 pub const UNLINKED: u32 = 4294967295;
 
 // A portal's edge to the facing one, or 0.
+#[tactic(auto, using(crate::specs::Weights::outer_none, crate::specs::Weights::near_beyond))]
 fn outer_edge(st: &[u8], m: Measures, p: usize) -> u32
     requires { Opened m st.now × (p < portal_count m) }
     ensures { result ≡ outer_edge (decode st.now) p }
@@ -38,6 +39,7 @@ fn outer_edge(st: &[u8], m: Measures, p: usize) -> u32
 }
 
 // The edge at place c of a portal, or 0: at its own place the edge to the facing one, at another the moves to the midpoint there.
+#[tactic(auto, using(crate::specs::Weights::edge_own, crate::specs::Weights::edge_far, crate::specs::Weights::edge_near))]
 fn edge_at(spread: &Spread, mid: u8, outer: u32, own: usize, c: usize) -> u32
     ensures { result ≡ edge_by spread.now mid outer own c }
 {
@@ -67,6 +69,7 @@ fn fill_places(
 }
 
 // The 20 places of number p, which is no portal's.
+#[tactic(auto, using(crate::specs::EdgeTable::row_clear))]
 fn clear_places(p: usize, table: &mut [u32])
     requires { (p < hall_portals) × (p * sector_portals + sector_portals ≤ length table.old) }
     ensures { Row (λ c. 0) p sector_portals table.old table.new }

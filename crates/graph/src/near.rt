@@ -20,6 +20,7 @@ use store::layout::sector_part;
 pub const NO_CROSSING: u8 = 100;
 
 // The index of a portal's midpoint, or NO_CROSSING where the number is no portal's.
+#[tactic(auto, using(crate::specs::Near::mid_some, crate::specs::Near::mid_none))]
 fn mid_of(st: &[u8], m: Measures, p: usize) -> u8
     requires { Opened m st.now }
     ensures { result ≡ mid_of (decode st.now) p }
@@ -32,6 +33,7 @@ fn mid_of(st: &[u8], m: Measures, p: usize) -> u8
 }
 
 // The midpoints of sector s by place.
+#[tactic(auto, using(laws::specs::Table::tabling), unfolding(crate::specs::Near::sector_mids))]
 pub fn sector_mids(st: &[u8], m: Measures, s: usize) -> [u8; SECTOR_PORTALS]
     requires { Opened m st.now × (s ≤ 100) }
     ensures { result ≡ sector_mids (decode st.now) s }
@@ -44,6 +46,7 @@ pub fn sector_mids(st: &[u8], m: Measures, s: usize) -> [u8; SECTOR_PORTALS]
 }
 
 // The moves to a midpoint, or None where there is no midpoint or no moves lead there.
+#[tactic(auto, using(crate::specs::Near::near_none, crate::specs::Near::near_some))]
 pub fn near_by(spread: &Spread, mid: u8) -> Option<u8>
     ensures { result ≡ moves_or_none (near_by spread.now mid) }
 {
@@ -75,6 +78,7 @@ pub fn moves_from(st: &[u8], m: Measures, x: usize, words: [u64; 2], spread: &mu
 }
 
 // The fewest moves from one cell to another, or None where they are not joined.
+#[tactic(auto, using(crate::specs::Near::other_sector, crate::specs::Near::same_sector))]
 pub fn moves_to(st: &[u8], m: Measures, x: usize, y: usize) -> Option<u8>
     requires { Opened m st.now × (x < cells m) }
     ensures { result ≡ (if joined (decode st.now).scaled x y then Some (moves_to (decode st.now).scaled x y) else None) }
@@ -88,6 +92,7 @@ pub fn moves_to(st: &[u8], m: Measures, x: usize, y: usize) -> Option<u8>
 }
 
 // The moves from cell x to the portals of its sector by place, and APART where there are none or the place has no portal.
+#[tactic(auto, using(crate::specs::Near::near_list))]
 pub fn portal_moves(st: &[u8], m: Measures, x: usize) -> [u8; SECTOR_PORTALS]
     requires { Opened m st.now × (x < cells m) }
     ensures { result ≡ portal_moves (decode st.now) x }

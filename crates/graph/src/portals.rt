@@ -45,6 +45,7 @@ fn portal_window(p: usize) -> usize
     p % SIDE_PORTALS
 }
 
+#[tactic(auto, using(crate::specs::Reading::mark_read, crate::specs::Reading::mark_low))]
 fn mark_of(st: &[u8], m: Measures, p: usize) -> u16
     requires { Opened m st.now × (portal_sector p < sectors m) }
     ensures { (result ≡ portal_mark (decode st.now) p) × (result ≤ 1023) }
@@ -53,6 +54,7 @@ fn mark_of(st: &[u8], m: Measures, p: usize) -> u16
 }
 
 // Whether a number is a portal's.
+#[tactic(auto, using(crate::specs::Reading::no_sector, crate::specs::Reading::window_test))]
 pub fn is_portal(st: &[u8], m: Measures, p: usize) -> bool
     requires { Opened m st.now }
     ensures { result ≡ is_portal (decode st.now) p }
@@ -61,6 +63,7 @@ pub fn is_portal(st: &[u8], m: Measures, p: usize) -> bool
 }
 
 // The window of a portal: its first and last place, and its cells.
+#[tactic(auto, using(crate::specs::Reading::portal_sector_lem, crate::specs::Reading::places_of_lem, model::specs::PortalNumbers::portal_is))]
 pub fn portal_run(st: &[u8], m: Measures, p: usize) -> OpenRun
     requires { Opened m st.now × (is_portal (decode st.now) p ≡ true) }
     ensures { Places (portal_mark (decode st.now) p) (portal_window p) result }
@@ -68,6 +71,7 @@ pub fn portal_run(st: &[u8], m: Measures, p: usize) -> OpenRun
     window_at(mark_of(st, m, p), portal_window(p))
 }
 
+#[tactic(auto, using(crate::specs::Reading::portal_sector_lem, model::specs::PortalNumbers::portal_is))]
 pub fn window_of_portal(st: &[u8], m: Measures, p: usize) -> PortalWindow
     requires { Opened m st.now × (is_portal (decode st.now) p ≡ true) }
     ensures { result ≡ window_of (decode st.now) p }
@@ -93,7 +97,7 @@ pub fn facing_in(t: usize, p: usize) -> usize
 }
 
 // The portal of the same number on the facing side.
-#[tactic(auto, unfolding(model::specs::Portals::facing))]
+#[tactic(auto, using(model::specs::SectorSides::beyond_low), unfolding(model::specs::Portals::facing))]
 pub fn facing(m: Measures, p: usize) -> usize
     requires { (m.rows ≤ 10) × (p < hall_portals) }
     ensures { result ≡ facing (bare m) p }
@@ -102,6 +106,7 @@ pub fn facing(m: Measures, p: usize) -> usize
 }
 
 // The portal to which place c of portal p leads.
+#[tactic(auto, using(model::specs::PortalEdges::head_own, model::specs::PortalEdges::head_other))]
 pub fn head_of(m: Measures, p: usize, c: usize) -> usize
     requires { (m.rows ≤ 10) × (p < hall_portals) × (c < sector_portals) }
     ensures { result ≡ head_of (bare m) p c }

@@ -1,15 +1,8 @@
 -- `outer_edge` answers by the sector beyond and the facing portal.
-use native.Mathlib.Omega.{arith}
 use mathlib.Core.Path.{sym, ◌∙◌}
 use mathlib.Core.Bool.{true, false}
-use Rattle.graph.specs.Weights.{outer_none, outer_some, near_beyond}
+use Rattle.graph.specs.Weights.{outer_some}
 use Rattle.graph.proofs.edges.outer_edge.Goals as goal
-
-pub facing_in-requires : goal.facing_in-requires
-facing_in-requires c = near_beyond c.requires.0 c.args.p c.portal_sector.ensures c.portal_side.ensures c.in-Some.ensures (omega (arith, c.portal_sector.ensures, c.requires.1))
-
-pub returns-in_default : goal.returns-in_default
-returns-in_default c = outer_none c.requires.0 c.args.p c.portal_sector.ensures c.portal_side.ensures c.in_default.ensures
 
 pub returns-then-is_portal : goal.returns-then-is_portal
 returns-then-is_portal c =
