@@ -1,31 +1,44 @@
 -- The edges of a portal in the cases that code meets, and that they are the graph's weights.
-use Rattle.std.specs.Prelude.{Some, None, ℕ, ◌≤◌, ◌<◌, ◌≡◌, Bool, true, false, ◌&&◌, List, ltb, eqb, length, get_or}
+use Rattle.std.specs.Prelude.{if◌then◌else◌, Some, None, ℕ, ◌≤◌, ◌<◌, ◌≡◌, Bool, true, false, List, ltb, eqb, get_or}
 use Rattle.std.proofs.Common.{arith, sym, ap, ◌∙◌}
 use Rattle.std.proofs.Math.Path.{refl}
 use borrow.Author.Tests.{lt-ltb, eq-eqb, ne_eqb}
 use Rattle.laws.specs.Fold.{pick}
 use Rattle.laws.specs.Options.{some_if, none_if}
-use Rattle.laws.specs.Table.{length_tabulate, table_at}
+use Rattle.laws.specs.Table.{table_at}
 use Rattle.model.specs.declared.Measures.{Measures}
 use Rattle.model.specs.declared.Side.{Side}
-use Rattle.model.specs.Sectors.{sector_cells, floor_number, sector_of, place_of, costs_of, has_beyond}
+use Rattle.model.specs.Cells.{opposite}
+use Rattle.model.specs.SectorSides.{beyond_low}
+use Rattle.graph.specs.Reading.{accepted_of}
+use Rattle.model.specs.Sectors.{sector_cells, floor_number, sector_of, place_of, costs_of, sectors, beyond, has_beyond}
 use Rattle.model.specs.Moves.{moves, apart}
 use Rattle.model.specs.Halls.{Hall}
 use Rattle.model.specs.Portals.{sector_portals, arc_count, portal_sector, portal_side, portal_place, place_portal, arc_tail, arc_place, arc_at}
-use Rattle.model.specs.Portals.{is_portal, midpoint, moves_from, facing, key, outer_edge, inner_edge, edge_at, portal_graph}
+use Rattle.model.specs.Portals.{is_portal, midpoint, moves_from, portal_at, portal_window, facing, key, outer_edge, inner_edge, edge_at, portal_graph}
 use Rattle.model.specs.PortalCrossings.{Fits, mid_low}
 use Rattle.model.specs.PortalEdges.{weight_at}
 use Rattle.model.specs.Store.{decode}
 use Rattle.moves.specs.Levels.{moves_or_none}
 use Rattle.store.specs.Passed.{Passed}
-use Rattle.graph.specs.EdgeTable.{bare}
 use Rattle.graph.specs.Near.{mid_of, sector_mids, near_by, mid_some, mid_none}
 
--- the edge to the facing portal q: x says whether there is a sector beyond, y whether q is a portal
-pub outer_is : {m : Measures} {st : List ℕ} → Passed m st → (p : ℕ) (x y : Bool) {s q : ℕ} {side : Side} {b d : Bool} → s ≡ portal_sector p → side ≡ portal_side p → b ≡ has_beyond m s side → b ≡ x
-    → q ≡ facing (bare m) p → d ≡ is_portal (decode st) q → d ≡ y → pick (x && y) (key 1) 0 ≡ outer_edge (decode st) p
-unfolding outer_edge facing decode
-outer_is o p x y s e f b g k d = rw (← b, ← d, k, g, f, s, e, o.read) refl
+-- the edge to the facing portal q, by the sector t beyond
+module _ {m : Measures} {st : List ℕ} (o : Passed m st) (p : ℕ) {s : ℕ} {side : Side} (e : s ≡ portal_sector p) (f : side ≡ portal_side p) where
+  pub outer_none : None ≡ (if has_beyond m s side then Some (beyond m s side) else None) → 0 ≡ outer_edge (decode st) p
+  unfolding outer_edge decode
+  outer_none n = rw (← e, ← f, ← o.read, none_if (has_beyond m s side) (beyond m s side) n) refl
+
+  module _ {t : ℕ} (n : Some t ≡ (if has_beyond m s side then Some (beyond m s side) else None)) where
+    there : (has_beyond m s side ≡ true) × (t ≡ beyond m s side)
+    there = some_if (has_beyond m s side) (beyond m s side) n
+
+    pub outer_some : {q : ℕ} (d : Bool) → q ≡ portal_at t (opposite (portal_side p)) (portal_window p) → d ≡ is_portal (decode st) q → pick d (key 1) 0 ≡ outer_edge (decode st) p
+    unfolding outer_edge facing decode
+    outer_some {q} d k g = let one = rw (e, f, o.read) at there.0 in rw (g, k, there.1, e, f, o.read, one) refl
+
+    pub near_beyond : s < sectors m → t ≤ 110
+    near_beyond l = omega (arith, there.1, beyond_low m s side, (accepted_of o).few_sectors, (accepted_of o).few_rows)
 
 -- ---- the edges of a portal as code finds them: the moves from its midpoint are spread once, the midpoints of its sector are known
 -- the edge at place c, which has midpoint `mid`; at the portal's own place stands the edge to the facing one
@@ -56,10 +69,6 @@ inner_by h fits from q = go (is_portal h q) refl
 
 -- what the midpoints of its sector say of number p
 module _ (h : Hall) (p : ℕ) {mids : List ℕ} (given : mids ≡ sector_mids h (portal_sector p)) where
-  pub mids_long : length mids ≡ sector_portals
-  unfolding sector_mids
-  mids_long = rw given (length_tabulate (λ k. mid_of h (place_portal (portal_sector p) k)) sector_portals 0)
-
   place_mid : (c : ℕ) → c < sector_portals → get_or mids c 0 ≡ mid_of h (place_portal (portal_sector p) c)
   unfolding sector_mids
   place_mid c l = table_at (λ k. mid_of h (place_portal (portal_sector p) k)) sector_portals given c 0 l

@@ -9,7 +9,7 @@ ghost use Rattle.graph.specs.Near.{sector_mids};
 ghost use Rattle.graph.specs.Weights.{edge_by};
 
 use crate::near::{NO_CROSSING, moves_from, near_by, sector_mids, sector_words};
-use crate::portals::{SECTOR_PORTALS, facing, is_portal, portal_sector, portal_side};
+use crate::portals::{SECTOR_PORTALS, facing_in, is_portal, portal_sector, portal_side};
 use fields::sectors::{SECTOR_CELLS, neighbour, sectors};
 use moves::spread::Spread;
 use store::opened::Opened;
@@ -23,14 +23,15 @@ const FACING_KEY: u32 = KEY_STEP + 1;
 pub const UNLINKED: u32 = 4294967295;
 
 // A portal's edge to the facing one, or 0.
+#[tactic(auto, using(crate::specs::Weights::outer_none, crate::specs::Weights::near_beyond))]
 fn outer_edge(hall: &Opened<'_>, p: usize) -> u32
     requires { p < portal_count hall.now.store.measures }
     ensures { result ≡ outer_edge (stored hall.now) p }
 {
-    if neighbour(hall.store.measures, portal_sector(p), portal_side(p)).is_none() {
+    let Some(t) = neighbour(hall.store.measures, portal_sector(p), portal_side(p)) else {
         return 0;
-    }
-    if is_portal(hall, facing(hall.store.measures, p)) {
+    };
+    if is_portal(hall, facing_in(t, p)) {
         FACING_KEY
     } else {
         0
@@ -38,6 +39,7 @@ fn outer_edge(hall: &Opened<'_>, p: usize) -> u32
 }
 
 // The edge at place c of a portal, or 0: at its own place the edge to the facing one, at another the moves to the midpoint there.
+#[tactic(auto, using(crate::specs::Weights::edge_own, crate::specs::Weights::edge_far, crate::specs::Weights::edge_near))]
 fn edge_at(spread: &Spread, mid: u8, outer: u32, own: usize, c: usize) -> u32
     ensures { result ≡ edge_by spread.now mid outer own c }
 {
@@ -67,6 +69,7 @@ fn fill_places(
 }
 
 // The 20 places of number p, which is no portal's.
+#[tactic(auto, using(crate::specs::EdgeTable::row_clear))]
 fn clear_places(p: usize, table: &mut [u32])
     requires { (p < hall_portals) × (p * sector_portals + sector_portals ≤ length table.old) }
     ensures { Row (λ c. 0) p sector_portals table.old table.new }

@@ -18,6 +18,7 @@ use store::opened::Opened;
 pub const NO_CROSSING: u8 = 100;
 
 // The index of a portal's midpoint, or NO_CROSSING where the number is no portal's.
+#[tactic(auto, using(crate::specs::Near::mid_some, crate::specs::Near::mid_none))]
 fn mid_of(hall: &Opened<'_>, p: usize) -> u8
     ensures { result ≡ mid_of (stored hall.now) p }
 {
@@ -29,6 +30,7 @@ fn mid_of(hall: &Opened<'_>, p: usize) -> u8
 }
 
 // The midpoints of sector s by place.
+#[tactic(auto, using(laws::specs::Table::tabling), unfolding(crate::specs::Near::sector_mids))]
 pub fn sector_mids(hall: &Opened<'_>, s: usize) -> [u8; SECTOR_PORTALS]
     requires { s ≤ 100 }
     ensures { result ≡ sector_mids (stored hall.now) s }
@@ -41,6 +43,7 @@ pub fn sector_mids(hall: &Opened<'_>, s: usize) -> [u8; SECTOR_PORTALS]
 }
 
 // The moves to a midpoint, or None where there is no midpoint or no moves lead there.
+#[tactic(auto, using(crate::specs::Near::near_none, crate::specs::Near::near_some))]
 pub fn near_by(spread: &Spread, mid: u8) -> Option<u8>
     ensures { result ≡ moves_or_none (near_by spread.now mid) }
 {
@@ -68,6 +71,7 @@ pub fn moves_from(hall: &Opened<'_>, x: usize, words: [u64; 2], spread: &mut Spr
 }
 
 // The fewest moves from one cell to another, or None where they are not joined.
+#[tactic(auto, using(crate::specs::Near::other_sector, crate::specs::Near::same_sector))]
 pub fn moves_to(hall: &Opened<'_>, x: usize, y: usize) -> Option<u8>
     requires { x < cells hall.now.store.measures }
     ensures { result ≡ (if joined (stored hall.now).scaled x y then Some (moves_to (stored hall.now).scaled x y) else None) }
@@ -81,6 +85,7 @@ pub fn moves_to(hall: &Opened<'_>, x: usize, y: usize) -> Option<u8>
 }
 
 // The moves from cell x to the portals of its sector by place, and APART where there are none or the place has no portal.
+#[tactic(auto, using(crate::specs::Near::near_list))]
 pub fn portal_moves(hall: &Opened<'_>, x: usize) -> [u8; SECTOR_PORTALS]
     requires { x < cells hall.now.store.measures }
     ensures { result ≡ portal_moves (stored hall.now) x }

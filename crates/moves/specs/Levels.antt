@@ -1,5 +1,5 @@
 -- A sector's cells as two words of bits, and the levels of a spread of moves: level d has the cells that at most d moves reach.
-use Rattle.std.specs.Prelude.{Bool, false, if◌then◌else◌, Option, Some, None, ℕ, zero, suc, ◌+◌, ◌-◌, ◌*◌, ◌/◌, ◌%◌, ◌^◌, ◌≤◌, ◌<◌, ◌≡◌, List, ltb, eqb, length, get_or}
+use Rattle.std.specs.Prelude.{Bool, false, if◌then◌else◌, Option, Some, None, ℕ, zero, suc, ◌+◌, ◌-◌, ◌*◌, ◌/◌, ◌%◌, ◌^◌, ◌<◌, ◌≡◌, List, ltb, eqb, length, get_or}
 use Rattle.std.specs.Int.Bits.{bit_and, bit_or}
 use Rattle.laws.specs.Fold.{pick}
 use Rattle.laws.specs.Table.{tabulate}

@@ -57,5 +57,5 @@ pub fn border_index(side: Side, place: usize) -> u8
     requires { place < 10 }
     ensures { result ≡ border side place }
 {
-    cell_index(boundary_field_cells(side).own[place]) as u8
+    cell_index(side_cells(side)[place]) as u8
 }

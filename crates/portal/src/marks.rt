@@ -32,6 +32,7 @@ fn cells_mark(costs: &[u8], s: usize, t: usize, cells: BorderCells) -> u16
 }
 
 // The mark of a side.
+#[tactic(auto, using(crate::proofs::Places::beyond_small, crate::proofs::Places::mark_beyond, crate::proofs::Places::mark_none))]
 pub fn side_mark(m: Measures, costs: &[u8], s: usize, side: Side) -> u16
     requires { (1 ≤ m.rows) × (s ≤ 10000) }
     ensures { result ≡ mark_of m costs.now s side }

@@ -47,6 +47,7 @@ fn side_windows(list: &mut [u8], side: Side, mark: u16) -> usize
 }
 
 // How many windows a sector has.
+#[tactic(auto, using(crate::proofs::Entries::counting))]
 pub fn windows_number(marks: [u16; 4]) -> usize
     ensures { FourMarks marks → result ≡ length (windows_by marks 4) }
 {

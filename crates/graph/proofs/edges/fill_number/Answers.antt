@@ -8,7 +8,7 @@ use Rattle.model.specs.Halls.{Hall}
 use Rattle.model.specs.Portals.{sector_portals, hall_portals, sector_arcs}
 use Rattle.store.specs.Stored.{stored}
 use Rattle.graph.specs.Reading.{accepted_of, fits_of, measures_are}
-use Rattle.graph.specs.Weights.{mids_long, own_none, own_some, moves_own, weight_none, weight_by}
+use Rattle.graph.specs.Weights.{own_none, own_some, moves_own, weight_none, weight_by}
 use Rattle.graph.proofs.edges.fill_number.Goals as goal
 use Rattle.graph.proofs.edges.fill_number.Goals.{Start}
 
@@ -27,12 +27,6 @@ room c = omega (arith, c.requires.places.2.long, are c, c.requires.places.0)
 
 inside : (c : Start) (k : ℕ) → k < sector_portals → c.args.p * sector_portals + k < sectors (H c).measures * sector_arcs
 inside c k l = omega (arith, are c, c.requires.places.0)
-
-mids_20 : (c : Start) → length c.args.mids.now ≡ sector_portals
-mids_20 c = mids_long (H c) c.args.p c.requires.places.1
-
-pub bounds-mids-p : goal.bounds-mids-p
-bounds-mids-p c = omega (arith, mids_20 (goal.at.bounds-mids-p c).Start)
 
 pub clear_places-requires : goal.clear_places-requires
 clear_places-requires c =

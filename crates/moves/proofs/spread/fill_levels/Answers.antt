@@ -2,11 +2,8 @@
 -- The loop's invariant: the levels up to d have the cells with at most as many moves; it is left where a level is the one before, or where there is a level for each count.
 use Prim.Native.Nat.{ℕ, ◌+◌}
 use native.Mathlib.Omega.{arith}
-use mathlib.Core.Path.{◌≡◌, ap, ◌∙◌}
+use mathlib.Core.Path.{◌≡◌}
 use mathlib.Core.List.{List}
-use lib.ListN.{length}
-use Rattle.laws.specs.Table.{length_tabulate}
-use Rattle.moves.specs.Levels.{open_word, open_words}
 use Rattle.moves.proofs.Levels.{Levels, levels_first, spread_blocked, spread_last, spread_more, spread_still}
 use Rattle.moves.proofs.spread.fill_levels.Goals as goal
 

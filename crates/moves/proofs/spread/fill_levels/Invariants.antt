@@ -1,5 +1,5 @@
 -- `fill_levels` gives the levels of the moves.
-use Prim.Native.Nat.{◌+◌, ◌≤◌}
+use Prim.Native.Nat.{◌+◌}
 use Rattle.moves.proofs.Steps.{far}
 use Rattle.moves.proofs.Levels.{Levels}
 use Rattle.moves.proofs.spread.fill_levels.Given as goal

@@ -3,8 +3,5 @@ use borrow.Author.Rules.{rules}
 use Rattle.portal.proofs.Entries.{counting}
 use Rattle.portal.proofs.windows.windows_number.Goals as goal
 
-pub loop-mark-init : goal.loop-mark-init
-loop-mark-init c = search (rules, counting)
-
 pub loop-mark-preserved : goal.loop-mark-preserved
 loop-mark-preserved c = search (rules, counting)
