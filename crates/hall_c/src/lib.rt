@@ -130,12 +130,12 @@ impl From<Result<u32, Refusal>> for FileAnswer {
     }
 }
 
-// The number of an answer that has no values.
-fn number(answer: Result<(), Refusal>) -> u8
+// The number of an answer, without what it gives.
+fn number<T: Drop>(answer: Result<T, Refusal>) -> u8
     ensures { result ≡ number_of answer }
 {
     match answer {
-        Ok(()) => 0,
+        Ok(_) => 0,
         Err(refusal) => refusal.number(),
     }
 }

@@ -1,5 +1,5 @@
 -- What a route found becomes in the call's answer and in the lent list, and the cases in which code finds it.
-use Rattle.std.specs.Prelude.{if◌then◌else◌, Some, None, ℕ, ◌+◌, ◌*◌, ◌/◌, ◌%◌, ◌≤◌, ◌<◌, ◌≡◌, List, [], ◌∷◌, ◌++◌, get_or, take, drop}
+use Rattle.std.specs.Prelude.{if◌then◌else◌, Option, Some, None, ℕ, ◌+◌, ◌*◌, ◌/◌, ◌%◌, ◌≤◌, ◌<◌, ◌≡◌, List, [], ◌∷◌, ◌++◌, get_or, take, drop}
 use Rattle.std.proofs.Common.{arith, sym, ◌∙◌, length-append, length-drop, take_at, lt-ltb, le-ltb}
 use Rattle.std.proofs.Math.Path.{refl, ap}
 use Rattle.std.proofs.Math.Bool.{true, false}
@@ -58,7 +58,7 @@ none_is : (list : List ℕ) {found : Found} → found ≡ none → (None ≡ out
 unfolding outcome found_into step_list flat_steps
 none_is list e = rw (e, le-ltb (length list / 6) 0 (omega arith)) (refl, refl)
 
-pub none_found : (h : Hall) (source goal : ℕ) (list : List ℕ) → chosen_pair h (portal_graph h) source goal ≡ MathNone
+pub none_found : (h : Hall) (source goal : ℕ) (list : List ℕ) → chosen_pair h (portal_graph h) source goal ≡ MathOption.none
     → (None ≡ outcome (through_portals h (portal_graph h) source goal)) × (list ≡ found_into (through_portals h (portal_graph h) source goal) list)
 unfolding through_portals through_pair
 none_found h source goal list e = none_is list (ap (through_pair h (portal_graph h) source goal) e)

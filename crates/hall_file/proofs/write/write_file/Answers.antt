@@ -1,4 +1,6 @@
 -- `write_file` answers and writes as a write does: refused, the output is as it was.
+use Rattle.std.proofs.Common.{◌≡◌, length}
+use Rattle.model.specs.Calls.{write_number}
 use Rattle.model.specs.declared.Refusal.TheVariants.{FileRoom}
 use Rattle.model.specs.Answers.{refused_as, refused_on}
 use Rattle.hall_file.proofs.Writing.{write_kept, refused_store, refused_29, written_answer, written_output}
@@ -13,7 +15,7 @@ returns-in_err-hall c =
 pub returns-then-output-size : goal.returns-then-output-size
 returns-then-output-size c =
     rw (← c.in_ok-hall.ensures.opened)
-    (let e = refused_29 _ c.args.output.now c.in_ok-hall.hall.opened (search rules) (search rules) c.if-output-size.true in
+    (let e : 29 ≡ write_number c.in_ok-hall.hall.store.bytes.now (length c.args.output.now) = search (rules, refused_29) in
     record { answer = refused_as e; written = write_kept _ _ FileRoom e })
 
 pub returns : goal.returns

@@ -21,7 +21,7 @@ use Rattle.graph.specs.Near.{portal_moves}
 use Rattle.choice.specs.Choosing.{sector_pairs, pair_run, run_at, Chosen, chosen_none, chosen_some}
 use Rattle.choice.specs.declared.places.Pair.{Pair}
 use Rattle.path.specs.Following.{Linked, graph_is}
-use Rattle.route.specs.Finding.{Paired, outcome, found_into, pair_found, pair_paired, pair_route, none_found}
+use Rattle.route.specs.Finding.{Paired, found_into, pair_found, pair_paired, pair_route, none_found}
 use Rattle.route.proofs.find.through_lists.Goals as goal
 use Rattle.route.proofs.find.through_lists.Goals.{After-of_store-edges}
 
