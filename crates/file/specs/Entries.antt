@@ -1,5 +1,5 @@
 -- The entries of a file put one after the other into a list of costs, and their floor numbers marked as they are met.
-use Rattle.std.specs.Prelude.{◌≡◌, ◌≢◌, refl, Bool, true, false, List, ℕ, ◌+◌, ◌<◌, ◌≤◌, length, get_or, set, replicate}
+use Rattle.std.specs.Prelude.{◌≡◌, ◌≢◌, refl, Bool, true, false, List, ℕ, ◌+◌, ◌<◌, ◌≤◌, leb, length, get_or, set, replicate}
 use Rattle.std.proofs.Common.{sym, ap, ◌∙◌, arith, length-set, get_or-set_same, get_or-set_other, eq-eqb, ne_eqb}
 use Rattle.std.proofs.lemmas.Bool.{false≢true}
 use Rattle.std.proofs.Math.Decide.{ℕ_discrete}
@@ -8,6 +8,7 @@ use Rattle.laws.specs.Fold.{run}
 use Rattle.laws.specs.Search.{first, any, any_no, any_some, any_has, Clear, clear_none, clear_turn, any_found, any_missed}
 use Rattle.laws.specs.Hits.{same_test}
 use Rattle.laws.specs.Puts.{put, length_puts, puts_none, puts_one}
+use Rattle.model.specs.Sectors.{cells}
 use Rattle.model.specs.Accepted.{Accepted}
 use Rattle.model.specs.Store.{measures_at, entry_count, entry_number, entry_cost, entry_names, base_in}
 use Rattle.model.specs.Calls.{entry_off, entry_again}
@@ -40,6 +41,11 @@ filled_from file size n {ones} {out} r en eo e = e ∙ rw (en, eo) (filled_only 
     }
 
 -- ---- the floor numbers
+-- what the test of a floor number decides
+pub off_is : (file : List ℕ) (k : ℕ) {size number : ℕ} → size ≡ cells (measures_at file) → number ≡ entry_number file k → leb size number ≡ entry_off file k
+unfolding entry_off
+off_is file k a b = rw (a, b)
+
 -- The loop that looks for a repeat: of the file's entries none before k was met before, and a number is marked if one of those has it.
 pub record Unrepeated (file : List ℕ) (k : ℕ) (met : List Bool) : Type 0 where
   pub clear : Clear (entry_again file) (entry_count file) k

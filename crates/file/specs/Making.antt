@@ -1,11 +1,11 @@
 -- A hall file made cell by cell: what stands in the list after the cells passed.
-use Rattle.std.specs.Prelude.{◌≡◌, ◌≢◌, Bool, List, [], ◌∷◌, ◌++◌, ℕ, zero, suc, ◌+◌, ◌-◌, ◌*◌, ◌/◌, ◌%◌, ◌≤◌, ◌<◌, ltb, length, get_or, set, take, drop, filter, count_by, not, eqb}
+use Rattle.std.specs.Prelude.{◌≡◌, ◌≢◌, Bool, List, [], ◌∷◌, ◌++◌, ℕ, zero, suc, ◌+◌, ◌-◌, ◌*◌, ◌/◌, ◌%◌, ◌≤◌, ◌<◌, ltb, length, get_or, set, drop, not, eqb}
 use Rattle.std.proofs.Math.Path.{refl}
-use Rattle.std.proofs.Common.{sym, ap, ◌∙◌, add-zero, arith, length-set, take_all, get_or-set_other, get_or-append-add, get_or-drop, eq-eqb, ne_eqb, ltb-true, ltb-false}
+use Rattle.std.proofs.Common.{sym, ap, ◌∙◌, add-zero, arith, length-set, get_or-set_other, get_or-append-add, get_or-drop, eq-eqb, ne_eqb, ltb-true, ltb-false}
 use Rattle.std.proofs.Math.Bool.{true, false}
-use Rattle.std.proofs.lemmas.List.Sums.{length-filter, count_by_more_yes, count_by_more_no}
+use Rattle.std.specs.Int.{from_bool}
 use Rattle.laws.specs.Fold.{pick, bit}
-use Rattle.laws.specs.Search.{count, count_le, count_up, count_above, Counted, counted_none, counted_turn, counted_all}
+use Rattle.laws.specs.Search.{count_le, count_up, count_above, Counted, counted_none, counted_turn, counted_all}
 use Rattle.laws.specs.Toward.{toward, front_of}
 use Rattle.model.specs.declared.Measures.{Measures}
 use Rattle.model.specs.Store.{u16_bytes, is_named, named_cells, file_of}
@@ -15,26 +15,14 @@ use Rattle.model.specs.FileWritten.{named_count, named_at, length_file, file_low
 pub counted_named : (base : List ℕ) {n k : ℕ} → Counted (is_named base) (length base) n k → length base ≤ n → k ≡ length (named_cells base)
 counted_named base c l = counted_all c l ∙ sym (named_count base)
 
--- as many as a filter finds
-counted_by : (p : ℕ → Bool) (xs : List ℕ) (n : ℕ) → n ≤ length xs → count_by p (take n xs) ≡ count (λ k. p (get_or xs k 0)) n
-unfolding count bit
-counted_by p xs zero l = refl
-counted_by p xs (suc n) l = go (p (get_or xs n 0)) refl (counted_by p xs n (omega arith))
+-- what the test of a cell's cost adds
+pub count_bit : (base : List ℕ) (n : ℕ) → from_bool (not (eqb (get_or base n 0) 1)) ≡ bit (is_named base n)
+unfolding bit is_named
+count_bit base n = go (not (eqb (get_or base n 0) 1))
   where
-    next : suc n ≡ n + 1
-    next = omega arith
-
-    go : (b : Bool) → p (get_or xs n 0) ≡ b → count_by p (take n xs) ≡ count (λ k. p (get_or xs k 0)) n → count_by p (take (suc n) xs) ≡ count (λ k. p (get_or xs k 0)) n + bit (p (get_or xs n 0))
-    go true e h = rw (e, next) (count_by_more_yes p xs n 0 (omega arith) e ∙ ap (λ (c : ℕ). c + 1) h)
-    go false e h = rw (e, next) (count_by_more_no p xs n 0 (omega arith) e ∙ h ∙ sym (add-zero _))
-
-pub filtered_named : (base : List ℕ) → length (filter (λ cost. not (eqb cost 1)) base) ≡ length (named_cells base)
-unfolding is_named
-filtered_named base =
-    let all : take (length base) base ≡ base = take_all (length base) base (omega arith) in
-    length-filter (λ cost. not (eqb cost 1)) base
-    ∙ rw all at (counted_by (λ cost. not (eqb cost 1)) base (length base) (omega arith))
-    ∙ sym (named_count base)
+    go : (b : Bool) → from_bool b ≡ bit b
+    go true = refl
+    go false = refl
 
 -- ---- the bytes
 -- sizes, scale and count

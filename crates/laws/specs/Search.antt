@@ -137,7 +137,7 @@ all_at p (suc n) k a l = go (both (p n) (all p n) a) (ℕ_discrete k n) (λ b h.
     go h (no e) more = more h.1 (omega arith)
 
 -- ---- how many
-bit_le : (b : Bool) → bit b ≤ 1
+pub bit_le : (b : Bool) → bit b ≤ 1
 unfolding bit
 bit_le true = omega arith
 bit_le false = omega arith

@@ -1,15 +1,20 @@
--- `named_count` counts the cells that have an entry.
-use Rattle.std.proofs.Common.{◌≡◌, ◌∙◌, not, eqb, length, arith, rules, tests}
-use Rattle.std.specs.Prelude.{filter}
-use Rattle.std.proofs.lemmas.Iterator.{YieldsList-from_slice}
-use Rattle.std.proofs.lemmas.Iterator.Consumers.{YieldsList-from_filter, count_from_yields_List}
-use Rattle.std.proofs.lemmas.List.Sums.{length-filter, count_by-le-length}
-use Rattle.file.specs.Making.{filtered_named}
+-- `named_count` counts the cells that have an entry: those passed are counted.
+use Rattle.std.proofs.Common.{◌∙◌, arith}
+use Rattle.laws.specs.Search.{bit_le, counted_none, counted_turn, counted_few}
+use Rattle.model.specs.Store.{is_named}
+use Rattle.file.specs.Making.{count_bit, counted_named}
 use Rattle.file.proofs.made.named_count.Goals as goal
 
+pub loop-cost-init : goal.loop-cost-init
+loop-cost-init c = counted_none _ _
+
+pub overflow_add-count : goal.overflow_add-count
+overflow_add-count c =
+    let add = c.from-count.ensures ∙ count_bit c.args.base.now c.loop-cost.cost-index in
+    omega (arith, counted_few c.loop-cost.invariant, add, bit_le (is_named c.args.base.now c.loop-cost.cost-index))
+
+pub loop-cost-preserved : goal.loop-cost-preserved
+loop-cost-preserved c = counted_turn c.loop-cost.invariant (omega arith) (c.from-count.ensures ∙ count_bit c.args.base.now c.loop-cost.cost-index)
+
 pub returns : goal.returns
-returns c =
-    let found : c.count.result ≡ length (filter (λ cost. not (eqb cost 1)) c.args.base.now) =
-    count_from_yields_List c.filter.result _ c.count.ensures.ran
-    (YieldsList-from_filter _ (λ cost. not (eqb cost 1)) (YieldsList-from_slice c.args.base.now cc) c.filter.ensures.closure (λ x r q k. search (rules, tests))) in
-    (found ∙ filtered_named c.args.base.now, omega (arith, length-filter (λ cost. not (eqb cost 1)) c.args.base.now, count_by-le-length (λ cost. not (eqb cost 1)) c.args.base.now))
+returns c = (counted_named _ c.loop-cost.invariant (omega arith), counted_few c.loop-cost.invariant)

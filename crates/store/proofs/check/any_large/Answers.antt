@@ -1,11 +1,10 @@
--- `any_large` answers whether a mark is above 1,023.
-use Rattle.std.proofs.Common.{rules, tests, refl}
-use Rattle.laws.specs.Ranges.{any_range}
-use Rattle.store.specs.Stored.{held}
-use Rattle.store.specs.Ends.{is_above}
+-- `any_large` answers whether a mark is above 1,023: no mark passed is.
+use Rattle.laws.specs.Search.{seeking}
+use borrow.Author.Rules.{rules}
 use Rattle.store.proofs.check.any_large.Goals as goal
 
+pub returns-then-is_above : goal.returns-then-is_above
+returns-then-is_above c = rw (← c.sectors-k-end.ensures) (search (rules, seeking))
+
 pub returns : goal.returns
-returns c =
-    rw (← c.sectors.ensures)
-    (any_range (is_above (held c.args.store.now).marks 1023) _ _ _ _ _ c.any.ensures.ran refl (λ x b q k. search (rules, tests)))
+returns c = rw (← c.sectors-k-end.ensures) (search (rules, seeking))
