@@ -5,9 +5,8 @@ ghost use Rattle.model.specs.Store.{written};
 ghost use Rattle.model.specs.Calls.{built};
 ghost use Rattle.builder.specs.Parts.{Buildable};
 
-use crate::marks::mark_all;
-use crate::rooms::{cost_room, mark_room};
-use fields::sectors::{cells, sectors};
+use crate::marks::{MOST_SIDES, mark_all};
+use fields::sectors::{MOST_CELLS, cells, sectors};
 use model::Measures;
 use sector_cost::scale_all_costfields;
 use store::layout::write_hall;
@@ -27,8 +26,8 @@ pub fn build_hall(m: Measures, base: &[u8], st: &mut [u8])
     requires { Buildable m base.now st.old }
     ensures { st.new ≡ written (built m base.now) st.old }
 {
-    let mut scaled = cost_room();
-    let mut marks = mark_room();
+    let mut scaled = [0u8; MOST_CELLS];
+    let mut marks = [0u16; MOST_SIDES];
     let size = cells(m);
     let sides = sectors(m) * 4;
     build_in(m, base, &mut scaled[..size], &mut marks[..sides], st);

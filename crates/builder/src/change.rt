@@ -13,9 +13,8 @@ ghost use Rattle.builder.specs.Around.{sector_fresh, sector_exceeds, place_excee
 ghost use Rattle.builder.specs.Marks.{Small};
 ghost use Rattle.builder.specs.Parts.{Changeable, altered_number, altered_into};
 
-use crate::marks::{mark_side, take_marks};
-use crate::rooms::{cost_room, mark_room};
-use fields::sectors::{cells, neighbour, sectors};
+use crate::marks::{MOST_SIDES, mark_side, take_marks};
+use fields::sectors::{MOST_CELLS, cells, neighbour, sectors};
 use fields::sides::{SIDES, opposite};
 use model::{Measures, Refusal, Side};
 use portal::runs::window_count;
@@ -29,10 +28,8 @@ fn remark_sector(m: Measures, costs: &[u8], s: usize, marks: &mut [u16])
     requires { Accepted m × (s < sectors m) × (length marks.old ≡ sectors m * 4) }
     ensures { marks.new ≡ sector_fresh m costs.now s marks.old }
 {
-    let mut i = 0;
-    while i < 4 {
+    for i in 0..4 {
         mark_side(m, costs, s * 4 + i, marks);
-        i += 1;
     }
 }
 
@@ -52,10 +49,8 @@ fn remark(m: Measures, costs: &[u8], t: usize, marks: &mut [u16])
     requires { Accepted m × (t < sectors m) × (length marks.old ≡ sectors m * 4) }
     ensures { marks.new ≡ remarked m costs.now t marks.old }
 {
-    let mut k = 0;
-    while k < 9 {
+    for k in 0..9 {
         remark_place(m, costs, t, k, marks);
-        k += 1;
     }
 }
 
@@ -63,10 +58,7 @@ fn remark(m: Measures, costs: &[u8], t: usize, marks: &mut [u16])
 fn mark_or_none(marks: &[u16], k: usize) -> u16
     ensures { result ≡ get_or marks.now k 0 }
 {
-    if k < marks.len() {
-        return marks[k];
-    }
-    0
+    marks.get(k).copied().unwrap_or(0)
 }
 
 // How many windows a side of sector s has.
@@ -121,12 +113,10 @@ fn any_exceeds(m: Measures, marks: &[u16], t: usize) -> bool
     requires { Accepted m × Small marks.now × (t < sectors m) }
     ensures { result ≡ exceeds (hall_of m [] [] marks.now) t }
 {
-    let mut k = 0;
-    while k < 9 {
+    for k in 0..9 {
         if place_exceeds(m, marks, t, k) {
             return true;
         }
-        k += 1;
     }
     false
 }
@@ -185,9 +175,9 @@ pub fn change_hall(m: Measures, n: usize, cost: u8, st: &mut [u8]) -> Result<(),
     requires { Changeable m st.old n }
     ensures { (number_of result ≡ altered_number st.old n cost) × (st.new ≡ altered_into st.old n cost) }
 {
-    let mut base = cost_room();
-    let mut scaled = cost_room();
-    let mut marks = mark_room();
+    let mut base = [0u8; MOST_CELLS];
+    let mut scaled = [0u8; MOST_CELLS];
+    let mut marks = [0u16; MOST_SIDES];
     let size = cells(m);
     let sides = sectors(m) * 4;
     change_in(

@@ -4,4 +4,3 @@
 pub mod build;
 pub mod change;
 pub mod marks;
-mod rooms;

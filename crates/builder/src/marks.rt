@@ -12,6 +12,9 @@ use model::Measures;
 use portal::marks::side_mark;
 use store::layout::Store;
 
+// The most sides that a hall has.
+pub const MOST_SIDES: usize = 400;
+
 // Takes mark k over from a store.
 fn take_mark(store: &Store<'_>, k: usize, marks: &mut [u16])
     requires { (k < sectors store.now.measures * 4) × (length marks.old ≡ sectors store.now.measures * 4) }
@@ -25,11 +28,8 @@ pub fn take_marks(store: &Store<'_>, marks: &mut [u16])
     requires { length marks.old ≡ sectors store.now.measures * 4 }
     ensures { marks.new ≡ (held store.now).marks }
 {
-    let n = marks.len();
-    let mut k = 0;
-    while k < n {
+    for k in 0..marks.len() {
         take_mark(store, k, marks);
-        k += 1;
     }
 }
 
@@ -46,10 +46,7 @@ pub fn mark_all(m: Measures, costs: &[u8], marks: &mut [u16])
     requires { Accepted m × (length marks.old ≡ sectors m * 4) }
     ensures { marks.new ≡ marks_of m costs.now }
 {
-    let n = marks.len();
-    let mut k = 0;
-    while k < n {
+    for k in 0..marks.len() {
         mark_side(m, costs, k, marks);
-        k += 1;
     }
 }

@@ -5,7 +5,6 @@ pub mod bits;
 pub mod copies;
 pub mod costs;
 pub mod directions;
-pub mod numbers;
 pub mod sectors;
 pub mod sides;
 pub mod steps;

@@ -1,5 +1,4 @@
 -- `any_exceeds` answers refusal 22: no place passed has a sector that exceeds.
-use Prim.Native.Nat.{◌-◌}
 use mathlib.Core.List.{[]}
 use Rattle.laws.specs.Search.{Clear}
 use Rattle.builder.specs.Around.{place_exceeds}
@@ -8,6 +7,3 @@ use Rattle.builder.proofs.change.any_exceeds.Given as goal
 
 abbrev pub invariant-loop-k : goal.invariant-loop-k
 invariant-loop-k l = Clear (place_exceeds (hall_of l.m [] [] l.marks) l.t) 9 l.k
-
-abbrev pub decreases-loop-k : goal.decreases-loop-k
-decreases-loop-k l = 9 - l.k

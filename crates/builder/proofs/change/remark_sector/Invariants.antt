@@ -1,11 +1,7 @@
 -- `remark_sector` marks the sides of a sector one after the other.
-use Prim.Native.Nat.{◌-◌}
 use Rattle.laws.specs.Fold.{Ran}
 use Rattle.builder.specs.Around.{side_fresh}
 use Rattle.builder.proofs.change.remark_sector.Given as goal
 
 abbrev pub invariant-loop-i : goal.invariant-loop-i
 invariant-loop-i l = Ran (side_fresh l.m l.costs l.s) 4 l.i l.initial.marks l.marks
-
-abbrev pub decreases-loop-i : goal.decreases-loop-i
-decreases-loop-i l = 4 - l.i
