@@ -42,7 +42,7 @@ module _ (base : List ℕ) (n : ℕ) (h : get_or base n 0 ≡ 1) where
   unfolding is_named
   skips = rw (eq-eqb (get_or base n 0) 1 h)
 
-  pub skip_count : 0 ≡ bit (is_named base n)
+  skip_count : 0 ≡ bit (is_named base n)
   unfolding bit
   skip_count = rw skips
 
@@ -58,7 +58,7 @@ module _ (base : List ℕ) (n : ℕ) (h : get_or base n 0 ≢ 1) where
   unfolding is_named
   takes = rw (ne_eqb (get_or base n 0) 1 h)
 
-  pub take_count : 1 ≡ bit (is_named base n)
+  take_count : 1 ≡ bit (is_named base n)
   unfolding bit
   take_count = rw takes
 

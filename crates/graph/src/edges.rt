@@ -19,9 +19,6 @@ pub const KEY_STEP: u32 = 4096;
 
 const FACING_KEY: u32 = KEY_STEP + 1;
 
-// Stands for no path, as in the definitions, where a key stands in a list of keys: more than any key.
-pub const UNLINKED: u32 = 4294967295;
-
 // A portal's edge to the facing one, or 0: in a list of weights that is no edge, as in the definitions.
 #[tactic(auto, using(crate::specs::Weights::outer_none, crate::specs::Weights::near_beyond))]
 fn outer_edge(hall: &Opened<'_>, p: usize) -> u32

@@ -1,6 +1,5 @@
 -- `write_and_read` reads what it wrote: the file lies in front of the output, as long as write file answered.
-use mathlib.Core.Path.{sym, ap}
-use Prim.Native.Nat.{◌≤◌}
+use mathlib.Core.Path.{ap}
 use native.Mathlib.Omega.{arith}
 use lib.ListN.{length, take, length-take}
 use Rattle.home.specs.Home.{inside, comes_back, refused_back}
