@@ -11,7 +11,7 @@ use Rattle.model.specs.Numbers.{number, some_number, value_of}
 use Rattle.model.specs.Sectors.{cells}
 use Rattle.model.specs.Store.{measures_at, decode, file_in}
 use Rattle.model.specs.Calls.{check_number, read_into, write_number, write_answer, write_into, if_accepted}
-use Rattle.model.specs.Answers.{ReadAnswers, read_case, WriteAnswers}
+use Rattle.model.specs.Answers.{ReadAnswers, read_case, WriteAnswers, write_case}
 use Rattle.model.specs.Refusals.{neither_refused}
 use Rattle.model.specs.FileWritten.{reads_back, written_front}
 
@@ -42,7 +42,7 @@ module _ (st out : List ℕ) where
     pub comes_back : (base : List ℕ) {file new : List ℕ} {r : Result Measures Refusal} → file ≡ take n (write_into st out)
         → ReadAnswers file (length base) r → new ≡ read_into file base → ComesBack st (length out) (length base) r new
     comes_back base {file} e read filled ok right =
-        let size : n ≡ value_of 0 (write_answer st (length out)) = ap (value_of 0) a.case_is in
+        let size : n ≡ value_of 0 (write_answer st (length out)) = ap (value_of 0) (write_case st (length out) a) in
         let is : file ≡ file_in st = e ∙ ap (λ (k : ℕ). take k (write_into st out)) size ∙ written_front st out ok in
         let back = reads_back st (store_passed ok).0 base right in
         (read_case file (length base) read ∙ rw is back.0, filled ∙ rw is back.1)

@@ -10,11 +10,7 @@ use hall_file::write::write_file;
 use model::{Measures, Refusal};
 
 // Writes the floor of a store to the front of a lent output, and reads the file that is there then into a lent list of base costs.
-pub fn write_and_read(
-    st: &[u8],
-    output: &mut [u8],
-    base: &mut [u8],
-) -> Result<Measures, Refusal>
+pub fn write_and_read(st: &[u8], output: &mut [u8], base: &mut [u8]) -> Result<Measures, Refusal>
     ensures written { output.new ≡ write_into st.now output.old }
     ensures back { ComesBack st.now (length output.old) (length base.old) result base.new }
 {
