@@ -1,5 +1,5 @@
 -- A ladder of refusals: the first test that holds gives its number, and 0 says that none does.
-use Rattle.std.specs.Prelude.{◌≡◌, refl, Bool, true, false, not, ℕ, suc, eqb}
+use Rattle.std.specs.Prelude.{◌≡◌, refl, Bool, true, false, not, ℕ, suc, ◌≤◌, eqb}
 use Rattle.std.proofs.Common.{sym, ◌∙◌, arith, eqb-true}
 use Rattle.std.proofs.lemmas.Bool.{false≢true, not-false}
 
@@ -13,6 +13,12 @@ pub passed : (b : Bool) (n rest : ℕ) → refuse b (suc n) rest ≡ 0 → (b �
 unfolding refuse
 passed true n rest e = absurd (omega arith)
 passed false n rest e = (refl, e)
+
+-- no rung gives more than a number that none has more than
+pub refuse_most : (b : Bool) (n rest most : ℕ) → n ≤ most → rest ≤ most → refuse b n rest ≤ most
+unfolding refuse
+refuse_most true n rest most h r = h
+refuse_most false n rest most h r = r
 
 -- two numbers that a refusal did not find different
 pub not_different : (a b : ℕ) → not (eqb a b) ≡ false → a ≡ b

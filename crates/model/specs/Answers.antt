@@ -1,16 +1,17 @@
 -- What a call that answers a value promises: 01's or 02's number and values, by their definition for each case, and the case that follows from the number.
-use Rattle.std.specs.Prelude.{◌≡◌, refl, List, ℕ, zero, suc, None, Result, Ok, Err, length}
+use Rattle.std.specs.Prelude.{◌≡◌, refl, List, ℕ, zero, suc, ◌≤◌, None, Result, Ok, Err, length}
 use Rattle.std.proofs.Common.{ap, sym, ◌∙◌, arith}
 use Rattle.std.specs.Result.{IsErrAnd}
 use Rattle.std.proofs.lemmas.Result.{err_from_is_err_and}
 use Rattle.model.specs.declared.Measures.{Measures}
 use Rattle.model.specs.declared.Dimensions.{Dimensions}
 use Rattle.model.specs.declared.Refusal.{Refusal}
-use Rattle.model.specs.Numbers.{number, refusal, refusal_lem, some_number, answered, number_of, value_of}
+use Rattle.model.specs.Numbers.{number, refusal, refusal_lem, number_lem, some_number, answered, number_of, value_of}
 use Rattle.model.specs.Route.{Found, none, route, route_of}
 use Rattle.model.specs.Store.{measures_at, decode, file_in}
-use Rattle.model.specs.Calls.{if_accepted, measures_of, plan_number, plan_measures, plan_answer, read_number, read_answer}
-use Rattle.model.specs.Calls.{step_list, route_number, Routed, outcome, routed, route_answer, routed_steps, routed_leg, routed_run}
+use Rattle.model.specs.Refusals.{few}
+use Rattle.model.specs.Calls.{if_accepted, measures_of, value_number, measure_number, plan_number, plan_measures, plan_answer, form_number, entries_number, read_number, read_answer, check_number}
+use Rattle.model.specs.Calls.{step_list, found_number, route_number, Routed, outcome, routed, route_answer, routed_steps, routed_leg, routed_run}
 use Rattle.model.specs.Calls.{windows_of, windows_number, windows_answer, write_number, write_answer}
 
 -- the number and the value of an answer, where `none` stands for the value of a refusal
@@ -34,6 +35,12 @@ pub given_as : {A : Type 0} {none v w : A} {n : ℕ} → 0 ≡ n → w ≡ v →
 unfolding answered if_accepted
 given_as {A} {none} {v} {w} {n} e f = let ok : A → Result A Refusal = λ x. Ok x in rw (← e) (record { number_is = refl; value_is = f; case_is = ap ok f })
 
+-- the answer that a definition gives, whose number is one of the refusals' or 0
+pub answered_as : {A : Type 0} (none : A) (n : ℕ) (v : A) {answer : Result A Refusal} → n ≤ 29 → answer ≡ answered n v → AnswersAs none n v answer
+unfolding answered
+answered_as _ zero v h e = rw e (given_as refl refl)
+answered_as _ (suc n) v h e = rw e (refused_as (number_lem n h))
+
 -- the refusal of an earlier call, handed on
 pub refused_on : {A : Type 0} {none v : A} {n : ℕ} (answer : Result A Refusal) (r : Refusal) → IsErrAnd answer (λ e. e ≡ r) → number r ≡ n → AnswersAs none n v answer
 refused_on {A} {none} {v} {n} answer r e h = let p = err_from_is_err_and answer e in rw (p.1, p.2) (refused_as h)
@@ -42,12 +49,20 @@ refused_on {A} {none} {v} {n} answer r e h = let p = err_from_is_err_and answer 
 abbrev pub PlanAnswers : Dimensions → Result Measures Refusal → Type 0
 PlanAnswers d answer = AnswersAs (measures_of 0 0 0) (plan_number d) (plan_measures d) answer
 
+pub plan_answers : (d : Dimensions) {answer : Result Measures Refusal} → answer ≡ plan_answer d → PlanAnswers d answer
+unfolding plan_answer plan_number value_number measure_number
+plan_answers d e = answered_as (measures_of 0 0 0) (plan_number d) (plan_measures d) (search few depth 12) e
+
 pub plan_case : (d : Dimensions) {answer : Result Measures Refusal} → PlanAnswers d answer → answer ≡ plan_answer d
 unfolding plan_answer
 plan_case d a = a.case_is
 
 abbrev pub ReadAnswers : List ℕ → ℕ → Result Measures Refusal → Type 0
 ReadAnswers file size answer = AnswersAs (measures_of 0 0 0) (read_number file size) (measures_at file) answer
+
+pub read_answers : (file : List ℕ) (size : ℕ) {answer : Result Measures Refusal} → answer ≡ read_answer file size → ReadAnswers file size answer
+unfolding read_answer read_number form_number entries_number
+read_answers file size e = answered_as (measures_of 0 0 0) (read_number file size) (measures_at file) (search few depth 12) e
 
 pub read_case : (file : List ℕ) (size : ℕ) {answer : Result Measures Refusal} → ReadAnswers file size answer → answer ≡ read_answer file size
 unfolding read_answer
@@ -81,6 +96,10 @@ routed_as {n} {found} {answer} a = go n found a
 abbrev pub RouteAnswers : List ℕ → ℕ → ℕ → ℕ → Routed → Type 0
 RouteAnswers st source goal room answer = RoutedAs (route_number st source goal room) (route_of (decode st) source goal) answer
 
+pub route_answers : (st : List ℕ) (source goal room : ℕ) {answer : Routed} → answer ≡ route_answer st source goal room → RouteAnswers st source goal room answer
+unfolding route_answer route_number check_number found_number
+route_answers st source goal room e = routed_as (answered_as None (route_number st source goal room) (outcome (route_of (decode st) source goal)) (search few depth 12) e)
+
 pub route_case : (st : List ℕ) (source goal room : ℕ) {answer : Routed} → RouteAnswers st source goal room answer → answer ≡ route_answer st source goal room
 unfolding route_answer
 route_case st source goal room a = a.case_is
@@ -89,6 +108,10 @@ route_case st source goal room a = a.case_is
 abbrev pub WindowsAnswers : List ℕ → ℕ → ℕ → Result ℕ Refusal → Type 0
 WindowsAnswers st s room answer = AnswersAs 0 (windows_number st s room) (length (windows_of (decode st) s)) answer
 
+pub windows_answers : (st : List ℕ) (s room : ℕ) {answer : Result ℕ Refusal} → answer ≡ windows_answer st s room → WindowsAnswers st s room answer
+unfolding windows_answer windows_number check_number
+windows_answers st s room e = answered_as 0 (windows_number st s room) (length (windows_of (decode st) s)) (search few depth 12) e
+
 pub windows_case : (st : List ℕ) (s room : ℕ) {answer : Result ℕ Refusal} → WindowsAnswers st s room answer → answer ≡ windows_answer st s room
 unfolding windows_answer
 windows_case st s room a = a.case_is
@@ -96,6 +119,10 @@ windows_case st s room a = a.case_is
 -- ---- write file
 abbrev pub WriteAnswers : List ℕ → ℕ → Result ℕ Refusal → Type 0
 WriteAnswers st room answer = AnswersAs 0 (write_number st room) (length (file_in st)) answer
+
+pub write_answers : (st : List ℕ) (room : ℕ) {answer : Result ℕ Refusal} → answer ≡ write_answer st room → WriteAnswers st room answer
+unfolding write_answer write_number check_number
+write_answers st room e = answered_as 0 (write_number st room) (length (file_in st)) (search few depth 12) e
 
 pub write_case : (st : List ℕ) (room : ℕ) {answer : Result ℕ Refusal} → WriteAnswers st room answer → answer ≡ write_answer st room
 unfolding write_answer

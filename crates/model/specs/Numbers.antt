@@ -1,6 +1,7 @@
 -- The refusals by number: 01, "Calls and their numbers, in order", and 02's after them; and what a call answers by its number and the value that it gives where it is not refused.
-use Rattle.std.specs.Prelude.{◌≡◌, refl, ℕ, zero, suc, ◌-◌, ◌<◌, List, [], ◌∷◌, Result, Ok, Err, get_or}
-use Rattle.std.proofs.Common.{arith}
+use Rattle.std.specs.Prelude.{◌≡◌, refl, ℕ, zero, suc, ◌+◌, ◌-◌, ◌<◌, Bool, true, ◌&&◌, eqb, List, [], ◌∷◌, Result, Ok, Err, length, get_or}
+use Rattle.std.proofs.Common.{arith, eqb-true}
+use Rattle.std.proofs.lemmas.Bool.{and_parts}
 use Rattle.std.specs.Result.{IsErrAnd}
 use Rattle.std.proofs.lemmas.Result.{err_from_is_err_and}
 use Rattle.model.specs.declared.Refusal.{Refusal}
@@ -47,6 +48,19 @@ refusal n = get_or refusals (n - 1) NotFinite
 
 pub refusal_lem : (r : Refusal) → refusal (number r) ≡ r
 refusal_lem r = grind arith
+
+-- they stand in the order of their numbers
+abbrev in_order : ℕ → List Refusal → Bool
+in_order k [] = true
+in_order k (r ∷ rest) = eqb (number r) k && in_order (suc k) rest
+
+in_order_at : (list : List Refusal) (k i : ℕ) → in_order k list ≡ true → i < length list → number (get_or list i NotFinite) ≡ k + i
+in_order_at [] k i e l = absurd (omega arith)
+in_order_at (r ∷ rest) k zero e l = let b = and_parts (eqb (number r) k) (in_order (suc k) rest) e in omega (arith, eqb-true (number r) k b.0)
+in_order_at (r ∷ rest) k (suc i) e l = let b = and_parts (eqb (number r) k) (in_order (suc k) rest) e in omega (arith, in_order_at rest (suc k) i b.1 (omega arith))
+
+pub number_lem : (n : ℕ) → n < 29 → number (refusal (suc n)) ≡ suc n
+number_lem n h = let i : suc n - 1 ≡ n = omega arith in rw i (omega (arith, in_order_at refusals 1 n refl h))
 
 pub some_number : (r : Refusal) → 0 < number r
 some_number r = grind arith

@@ -1,6 +1,7 @@
 -- What a number above 0 does: no later test is asked, it is the answer, and what is lent stays as it was; and what 0 does.
-use Rattle.std.specs.Prelude.{◌≡◌, refl, ℕ, zero, suc, ◌<◌}
-use Rattle.std.proofs.Common.{sym, ◌∙◌, arith}
+use Rattle.std.specs.Prelude.{◌≡◌, refl, true, ℕ, zero, suc, ◌≤◌, ◌<◌, leb}
+use Rattle.std.proofs.Common.{sym, ◌∙◌, arith, leb-true}
+use Rattle.laws.specs.Ladder.{refuse_most}
 use Rattle.model.specs.declared.Refusal.{Refusal}
 use Rattle.model.specs.Numbers.{number, some_number}
 use Rattle.model.specs.Calls.{or_else, if_accepted}
@@ -22,6 +23,18 @@ pub neither_refused : (n rest : ℕ) → or_else n rest ≡ 0 → (n ≡ 0) × (
 unfolding or_else
 neither_refused zero rest e = (refl, e)
 neither_refused (suc n) rest e = absurd (omega arith)
+
+pub or_else_most : (n rest most : ℕ) → n ≤ most → rest ≤ most → or_else n rest ≤ most
+unfolding or_else
+or_else_most zero rest most h r = r
+or_else_most (suc n) rest most h r = h
+
+-- a literal number is at most 29
+pub few_number : (n : ℕ) → leb n 29 ≡ true → n ≤ 29
+few_number n e = leb-true n 29 e
+
+-- for `search few`: the number of a call is at most 29
+pub ruleset few = (or_else_most, refuse_most, few_number)
 
 pub not_accepted : {A : Type 0} (n : ℕ) (new old : A) → 0 < n → old ≡ if_accepted n new old
 unfolding if_accepted

@@ -12,7 +12,8 @@ pub fn spot_of(i: usize) -> usize
     i % 50 / 10 * 11 + i % 10
 }
 
-// The open cells of row y of a sector, bit x for column x, from its last cell down.
+// The open cells of row y of a sector, bit x for column x, from its last cell down. `cells_mark` of portal has this loop over another test;
+// one loop for both would take the test as a closure and say of it what it answers for each place, and that is longer than the loop.
 #[tactic(auto, using(fields::specs::Bits::marking), unfolding(crate::specs::Levels::open_row))]
 fn row_mark(costs: &[u8], y: usize) -> u16
     requires { y < 10 }
