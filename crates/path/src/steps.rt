@@ -81,16 +81,16 @@ pub fn write_last(m: Measures, s: usize, goal: usize, list: &mut [u8])
     put_step(list, step);
 }
 
-// The steps of the path of the first n nodes, at the front of a list.
-pub fn write_steps(hall: &Opened<'_>, nodes: &[u16], n: usize, goal: usize, list: &mut [u8])
-    requires { (n ≤ length nodes.now) × PortalPath (stored hall.now) (take n nodes.now) × (6 * (n / 2 + 1) ≤ length list.old) }
-    ensures { list.new ≡ flat_steps (steps_of (stored hall.now) goal true (take n nodes.now)) ++ drop (6 * (n / 2 + 1)) list.old }
+// The steps of a path of portals, at the front of a list.
+pub fn write_steps(hall: &Opened<'_>, nodes: &[u16], goal: usize, list: &mut [u8])
+    requires { PortalPath (stored hall.now) nodes.now × (6 * (length nodes.now / 2 + 1) ≤ length list.old) }
+    ensures { list.new ≡ flat_steps (steps_of (stored hall.now) goal true nodes.now) ++ drop (6 * (length nodes.now / 2 + 1)) list.old }
 {
-    let count = n / 2;
+    let count = nodes.len() / 2;
     for i in 0..count {
         let step = step_at(hall, usize::from(nodes[2 * i]));
         put_step(&mut list[6 * i..], step);
     }
-    let last = portal_sector(usize::from(nodes[n - 1]));
+    let last = portal_sector(usize::from(nodes[nodes.len() - 1]));
     write_last(hall.store.measures, last, goal, &mut list[6 * count..]);
 }

@@ -66,7 +66,7 @@ fn through_pair(
     if list.len() / 6 < steps {
         return found;
     }
-    write_steps(hall, &nodes, n, goal, list);
+    write_steps(hall, &nodes[..n], goal, list);
     found
 }
 

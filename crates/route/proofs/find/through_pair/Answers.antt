@@ -2,7 +2,8 @@
 use native.Mathlib.Omega.{arith}
 use Prim.Native.Nat.{◌<◌, ◌≤◌}
 use mathlib.Core.Path.{◌≡◌, sym, ap, ◌∙◌}
-use lib.ListN.{length}
+use lib.ListN.{length, take}
+use lib.Seq.{length-take-le}
 use Rattle.laws.specs.Graph.{Graph}
 use Rattle.model.specs.Portals.{hall_portals, portal_count, portal_graph}
 use Rattle.model.specs.LeastPath.{keys_to}
@@ -37,6 +38,9 @@ few_portals l = let s = l in (
   l.least_path-n.auto.nodes,
 )
 
+taken_long : (l : After-least_path-n) → length (take l.least_path-n.result l.least_path-n.new.nodes) ≡ l.least_path-n.result
+taken_long l = length-take-le l.least_path-n.result l.least_path-n.new.nodes (few_portals l).0
+
 pub keys_to-requires : goal.keys_to-requires
 keys_to-requires c = (c.requires.0.numbers, end_low (goal.at.keys_to-requires c).Start)
 
@@ -59,13 +63,12 @@ returns-then-list-steps c =
 
 pub write_steps-requires : goal.write_steps-requires
 write_steps-requires c = (
-  (few_portals (goal.at.write_steps-requires c).After-least_path-n).0,
   taken_path _ (fits (goal.at.write_steps-requires c).Start) c.requires.1 _ _ _ (keys_are (goal.at.write_steps-requires c).After-keys_to) c.least_path-n.ensures.count c.least_path-n.ensures.portals,
-  omega (arith, c.step_count-steps.ensures, c.if-list-steps.false),
+  rw (taken_long (goal.at.write_steps-requires c).After-least_path-n) (omega (arith, c.step_count-steps.ensures, c.if-list-steps.false)),
 )
 
 pub returns : goal.returns
 returns c =
     let both = pair_written _ (fits (goal.at.returns c).Start) c.requires.1 _ _ _ (keys_are (goal.at.returns c).After-keys_to) c.least_path-n.ensures.count c.least_path-n.ensures.portals _ c.args.leg c.args.last _ c.step_count-steps.ensures
-    c.if-list-steps.false c.write_steps.ensures in
+    c.if-list-steps.false (rw (taken_long (goal.at.returns c).After-least_path-n) at c.write_steps.ensures) in
     record { answer = rw (c.from.ensures, c.from-2.ensures) both.0; steps = both.1 }
