@@ -16,8 +16,8 @@ NAME = re.compile(r"(?<!`)`([^\W\d][\w'.:/-]{2,})`(?!`)")
 PATH = re.compile(rf"(?<![\w./-])((?:{FOLDERS})/[\w./-]*[\w/-])")
 SPLIT = re.compile(r"[^\w'-]+")
 
-# Documents that are not ours to mend, one that quotes what stood before, and quoted words that are nothing of this repository.
-GIVEN = ("docs/01-scope.md", "docs/02-change-requests.md", "docs/src/", "docs/PORT.md")
+# Documents that are not ours to mend, two that quote what stood before, and quoted words that are nothing of this repository.
+GIVEN = ("docs/01-scope.md", "docs/02-change-requests.md", "docs/src/", "docs/PORT.md", "docs/DESIGN-PASS.md")
 ELSEWHERE = {
     "cargo-web": "a package of Debian's",
     "rattle-kit-5b-plain": "the kit that the repository was written for",
