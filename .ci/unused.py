@@ -15,6 +15,9 @@ CRATES = pathlib.Path(__file__).resolve().parent.parent / "crates"
 # A law that stands though the check proves what cited it without it.
 UNCITED = "a law that the check no longer needs to be told"
 
+# A law on the definitions' numbers, beside one on what the code answers.
+STANDS = "a law of the definitions"
+
 # Names with a reader outside the crates: a folder, a file, or a file and a name.
 KEPT = {
     "audit/specs": "the theorems that docs/AUDIT.md names",
@@ -47,6 +50,10 @@ KEPT = {
     "fields/specs/Bits.antt:with_shut": UNCITED,
     "fields/specs/Bounds.antt:bytes_product": UNCITED,
     "graph/specs/EdgeTable.antt:row_none": UNCITED,
+    "graph/specs/Near.antt:near_none": STANDS,
+    "graph/specs/Near.antt:near_some": STANDS,
+    "graph/specs/Near.antt:other_sector": STANDS,
+    "graph/specs/Near.antt:same_sector": STANDS,
     "graph/specs/Reading.antt:room_of": UNCITED,
     "laws/specs/FirstLeast.antt:picked_none": UNCITED,
     "laws/specs/FirstLeast.antt:picked_take": UNCITED,
@@ -67,6 +74,7 @@ KEPT = {
     "model/specs/FileCosts.antt:names_other": UNCITED,
     "model/specs/FileCosts.antt:names_own": UNCITED,
     "records/specs/Filling.antt:filled_length": UNCITED,
+    "model/specs/Refusals.antt:earlier": STANDS,
     "walks/specs/Lines.antt:reached_none": UNCITED,
     "walks/specs/Lines.antt:reached_lt": UNCITED,
     "walks/specs/Lines.antt:reached_room": UNCITED,

@@ -18,7 +18,7 @@ use fields::sectors::{MOST_CELLS, cells, neighbour, sectors};
 use fields::sides::{SIDES, opposite};
 use model::{Measures, Refusal, Side};
 use portal::runs::window_count;
-use sector_cost::nearby::{is_nearby, nearby};
+use sector_cost::nearby::{PLACES, is_nearby, nearby};
 use sector_cost::rescale;
 use store::layout::{Store, write_hall};
 use store::opened::Opened;
@@ -33,24 +33,16 @@ fn remark_sector(m: Measures, costs: &[u8], s: usize, marks: &mut [u16])
     }
 }
 
-// Marks place k of the sectors around t afresh, if there is one.
-#[tactic(auto, using(model::specs::Nearby::nearby_lt))]
-fn remark_place(m: Measures, costs: &[u8], t: usize, k: usize, marks: &mut [u16])
-    requires { Accepted m × (t < sectors m) × (length marks.old ≡ sectors m * 4) }
-    ensures { marks.new ≡ at_nearby m t (sector_fresh m costs.now) k marks.old }
-{
-    if let Some(s) = nearby(m, t, k) {
-        remark_sector(m, costs, s, marks);
-    }
-}
-
 // Marks the sectors around sector t afresh. Other sectors keep their marks.
+#[tactic(auto, using(laws::specs::Fold::counting, model::specs::Nearby::nearby_lt))]
 fn remark(m: Measures, costs: &[u8], t: usize, marks: &mut [u16])
     requires { Accepted m × (t < sectors m) × (length marks.old ≡ sectors m * 4) }
     ensures { marks.new ≡ remarked m costs.now t marks.old }
 {
-    for k in 0..9 {
-        remark_place(m, costs, t, k, marks);
+    for k in 0..PLACES {
+        if let Some(s) = nearby(m, t, k) {
+            remark_sector(m, costs, s, marks);
+        }
     }
 }
 
@@ -113,7 +105,7 @@ fn any_exceeds(m: Measures, marks: &[u16], t: usize) -> bool
     requires { Accepted m × Small marks.now × (t < sectors m) }
     ensures { result ≡ exceeds (hall_of m [] [] marks.now) t }
 {
-    for k in 0..9 {
+    for k in 0..PLACES {
         if place_exceeds(m, marks, t, k) {
             return true;
         }

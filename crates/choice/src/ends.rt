@@ -7,7 +7,7 @@ ghost use Rattle.graph.specs.Edges.{graph_of};
 ghost use Rattle.choice.specs.Ends.{end_weight, EndsBegun, Nearest};
 
 use graph::edges::KEY_STEP;
-use graph::portals::HALL_PORTALS;
+use graph::portals::{HALL_PORTALS, SECTOR_PORTALS};
 use graph::table::Edges;
 use moves::spread::APART;
 use search::keys::settle;
@@ -30,8 +30,8 @@ fn offer_end(v: usize, last: u8, keys: &mut [u32], wait: &mut [u8])
 }
 
 // The goal's turn: its arcs to the ends of the sector whose first number is q.
-fn offer_ends(q: usize, lasts: &[u8], keys: &mut [u32], wait: &mut [u8])
-    requires { (q + sector_portals ≤ length keys.old) × (length wait.old ≡ length keys.old) × (length lasts.now ≡ sector_portals) }
+fn offer_ends(q: usize, lasts: &[u8; SECTOR_PORTALS], keys: &mut [u32], wait: &mut [u8])
+    requires { (q + sector_portals ≤ length keys.old) × (length wait.old ≡ length keys.old) }
     ensures { (g : Graph) → Sound g → length keys.old ≡ g.nodes → EndsBegun g q lasts.now 0 keys.old wait.old → EndsBegun g q lasts.now sector_portals keys.new wait.new }
 {
     for (k, last) in lasts.iter().enumerate() {
@@ -40,8 +40,8 @@ fn offer_ends(q: usize, lasts: &[u8], keys: &mut [u32], wait: &mut [u8])
 }
 
 // The least key from each portal to the goal over one of the ends, whose numbers begin at q: 4,096 for each move from the end to the goal and 4,096 more are counted in. u32::MAX where there is none.
-pub fn keys_to_goal(edges: Edges, q: usize, lasts: &[u8], keys: &mut [u32])
-    requires { (length keys.old ≡ portal_count edges.measures) × (q + sector_portals ≤ portal_count edges.measures) × (length lasts.now ≡ sector_portals) }
+pub fn keys_to_goal(edges: Edges, q: usize, lasts: &[u8; SECTOR_PORTALS], keys: &mut [u32])
+    requires { (length keys.old ≡ portal_count edges.measures) × (q + sector_portals ≤ portal_count edges.measures) }
     ensures { Nearest (graph_of edges.entry) q lasts.now keys.new }
 {
     let mut room = [0u8; HALL_PORTALS];

@@ -28,8 +28,13 @@ fn run_of(key: u32, leg: u8, last: u8) -> Option<u32>
 }
 
 // The first of twenty places with the least run: keys from number p on, legs and last moves by place.
-fn first_place(keys: &[u32], p: usize, legs: &[u8], lasts: &[u8]) -> Option<usize>
-    requires { (p + sector_portals ≤ length keys.now) × (length keys.now ≤ hall_portals) × (length legs.now ≡ sector_portals) × (length lasts.now ≡ sector_portals) }
+fn first_place(
+    keys: &[u32],
+    p: usize,
+    legs: &[u8; SECTOR_PORTALS],
+    lasts: &[u8; SECTOR_PORTALS],
+) -> Option<usize>
+    requires { (p + sector_portals ≤ length keys.now) × (length keys.now ≤ hall_portals) }
     ensures first { Foremost (place_run keys.now p legs.now lasts.now) unlinked sector_portals (unwrap_or result sector_portals) }
     ensures low { IfSome result (λ c. c < sector_portals) }
 {
@@ -52,11 +57,11 @@ pub fn choose_pair(
     edges: Edges,
     p: usize,
     q: usize,
-    legs: &[u8],
-    lasts: &[u8],
+    legs: &[u8; SECTOR_PORTALS],
+    lasts: &[u8; SECTOR_PORTALS],
     keys: &mut [u32],
 ) -> Option<Pair>
-    requires lists { (length keys.old ≡ portal_count edges.measures) × (length legs.now ≡ sector_portals) × (length lasts.now ≡ sector_portals) }
+    requires lists { (length keys.old ≡ portal_count edges.measures) }
     requires inside { (p + sector_portals ≤ portal_count edges.measures) × (q + sector_portals ≤ portal_count edges.measures) }
     ensures { let first = Foremost (pair_run (graph_of edges.entry) legs.now lasts.now p q) unlinked sector_pairs in MatchOption result (first sector_pairs) (λ pair. first (pair.start * sector_portals + pair.end)) }
 {

@@ -41,22 +41,48 @@ pub mid_none : (h : Hall) (p : ℕ) → is_portal h p ≡ false → sector_cells
 unfolding mid_of
 mid_none h p e = rw e refl
 
-pub near_none : (from : List ℕ) (mid : ℕ) → sector_cells ≤ mid → None ≡ moves_or_none (near_by from mid)
+pub near_none : (from : List ℕ) (mid : ℕ) → sector_cells ≤ mid → apart ≡ near_by from mid
 unfolding near_by
-near_none from mid l = rw (le-ltb mid sector_cells l) refl
+near_none from mid l = rw (le-ltb mid sector_cells l)
 
-pub near_some : (from : List ℕ) (mid : ℕ) → mid < sector_cells → moves_or_none (get_or from mid 0) ≡ moves_or_none (near_by from mid)
+pub near_some : (from : List ℕ) (mid : ℕ) {n : ℕ} → mid < sector_cells → n ≡ mid → get_or from n 0 ≡ near_by from mid
 unfolding near_by
-near_some from mid l = rw (lt-ltb mid sector_cells l) refl
+near_some from mid l e = rw (lt-ltb mid sector_cells l, e)
 
-pub other_sector : (costs : List ℕ) (x y : ℕ) → (sector_of x ≡ sector_of y → ⊥) → None ≡ (if joined costs x y then Some (moves_to costs x y) else None)
+-- the same as code answers it
+pub answer_none : (from : List ℕ) (mid : ℕ) → sector_cells ≤ mid → None ≡ moves_or_none (near_by from mid)
+answer_none from mid l = rw (← near_none from mid l) refl
+
+pub answer_some : (from : List ℕ) (mid : ℕ) → mid < sector_cells → moves_or_none (get_or from mid 0) ≡ moves_or_none (near_by from mid)
+answer_some from mid l = ap moves_or_none (near_some from mid l refl)
+
+pub other_sector : (costs : List ℕ) (x y : ℕ) → (sector_of x ≡ sector_of y → ⊥) → apart ≡ pick (joined costs x y) (moves_to costs x y) apart
 unfolding joined
 other_sector costs x y n = rw (ne_eqb (sector_of x) (sector_of y) n) refl
 
 pub same_sector : (costs : List ℕ) (x y : ℕ) {from : List ℕ} → sector_of x ≡ sector_of y → from ≡ moves (costs_of costs (sector_of x)) (place_of x)
+    → get_or from (place_of y) 0 ≡ pick (joined costs x y) (moves_to costs x y) apart
+unfolding joined moves_to
+same_sector costs x y {from} e f = rw (f, eq-eqb (sector_of x) (sector_of y) e) (go (below_or (get_or d (place_of y) 0) apart))
+  where
+    d : List ℕ
+    d = moves (costs_of costs (sector_of x)) (place_of x)
+
+    cap : get_or d (place_of y) 0 ≤ apart
+    cap = (moves_settled (costs_of costs (sector_of x)) (place_of x) (omega arith)).rough.capped (place_of y) (omega arith)
+
+    go : (get_or d (place_of y) 0 < apart) ⊎ (apart ≤ get_or d (place_of y) 0) → get_or d (place_of y) 0 ≡ pick (ltb (get_or d (place_of y) 0) apart) (get_or d (place_of y) 0) apart
+    go (inl l) = rw (lt-ltb (get_or d (place_of y) 0) apart l)
+    go (inr l) = rw (le-ltb (get_or d (place_of y) 0) apart l) (omega (arith, cap))
+
+pub answer_other : (costs : List ℕ) (x y : ℕ) → (sector_of x ≡ sector_of y → ⊥) → None ≡ (if joined costs x y then Some (moves_to costs x y) else None)
+unfolding joined
+answer_other costs x y n = rw (ne_eqb (sector_of x) (sector_of y) n) refl
+
+pub answer_same : (costs : List ℕ) (x y : ℕ) {from : List ℕ} → sector_of x ≡ sector_of y → from ≡ moves (costs_of costs (sector_of x)) (place_of x)
     → moves_or_none (get_or from (place_of y) 0) ≡ (if joined costs x y then Some (moves_to costs x y) else None)
 unfolding joined moves_to
-same_sector costs x y {from} e f = rw (f, eq-eqb (sector_of x) (sector_of y) e) refl
+answer_same costs x y {from} e f = rw (f, eq-eqb (sector_of x) (sector_of y) e) refl
 
 -- an entry's byte
 pub near_byte : (costs : List ℕ) (x mid : ℕ) {from : List ℕ} {o : Option ℕ} → x < sector_cells → from ≡ moves costs x → o ≡ moves_or_none (near_by from mid) → unwrap_or o apart ≡ near_by from mid

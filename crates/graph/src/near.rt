@@ -43,7 +43,7 @@ pub fn sector_mids(hall: &Opened<'_>, s: usize) -> [u8; SECTOR_PORTALS]
 }
 
 // The moves to a midpoint, or None where there is no midpoint or no moves lead there.
-#[tactic(auto, using(crate::specs::Near::near_none, crate::specs::Near::near_some))]
+#[tactic(auto, using(crate::specs::Near::answer_none, crate::specs::Near::answer_some))]
 pub fn near_by(spread: &Spread, mid: u8) -> Option<u8>
     ensures { result ≡ moves_or_none (near_by spread.now mid) }
 {
@@ -71,7 +71,7 @@ pub fn moves_from(hall: &Opened<'_>, x: usize, words: [u64; 2], spread: &mut Spr
 }
 
 // The fewest moves from one cell to another, or None where they are not joined.
-#[tactic(auto, using(crate::specs::Near::other_sector, crate::specs::Near::same_sector))]
+#[tactic(auto, using(crate::specs::Near::answer_other, crate::specs::Near::answer_same))]
 pub fn moves_to(hall: &Opened<'_>, x: usize, y: usize) -> Option<u8>
     requires { x < cells hall.now.store.measures }
     ensures { result ≡ (if joined (stored hall.now).scaled x y then Some (moves_to (stored hall.now).scaled x y) else None) }

@@ -14,13 +14,13 @@ use Rattle.model.specs.Store.{measures_at, decode, written}
 use Rattle.model.specs.Change.{changed}
 use Rattle.model.specs.Calls.{or_else, check_number, alter_number, change_number, change_into}
 use Rattle.builder.specs.Parts.{Changeable, altered_number, altered_into}
-use Rattle.model.specs.Refusals.{earlier, not_accepted}
+use Rattle.model.specs.Refusals.{handed_on, not_accepted}
 use Rattle.store.specs.Passed.{Passed, check_passed}
 
 module _ (st : List ℕ) (n cost : ℕ) where
   pub change_first : (r : Refusal) → number r ≡ check_number st → number r ≡ change_number st n cost
   unfolding change_number
-  change_first r e = earlier r _ _ e
+  change_first r e = handed_on r _ _ e
 
   -- whatever its number, a refusal leaves the store
   pub change_kept : (r : Refusal) → number r ≡ change_number st n cost → st ≡ change_into st n cost

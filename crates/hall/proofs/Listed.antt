@@ -20,7 +20,7 @@ use Rattle.model.specs.Answers.{WindowsAnswers, given_as}
 use Rattle.portal.specs.SectorWindows.{windows_by, FourMarks, windows_by_lem, over, few_by}
 use Rattle.store.specs.Layout.{sector_marks}
 use Rattle.store.specs.Passed.{Passed, check_passed}
-use Rattle.model.specs.Refusals.{earlier, not_accepted}
+use Rattle.model.specs.Refusals.{handed_on, not_accepted}
 
 -- ---- the marks of a sector
 module _ {st : List ℕ} {m : Measures} (s : ℕ) {marks : List ℕ} (p : Passed m st) (on : s < sectors m) (are : marks ≡ sector_marks (marks_in m st) s) where
@@ -45,7 +45,7 @@ module _ (st : List ℕ) (s : ℕ) (list : List ℕ) where
 
   pub refused_store : (r : Refusal) → number r ≡ check_number st → number r ≡ windows_number st s (length list / 3)
   unfolding windows_number
-  refused_store r e = earlier r _ _ e
+  refused_store r e = handed_on r _ _ e
 
   -- the store is opened
   module _ {m : Measures} (p : Passed m st) {n : ℕ} (all : n ≡ sectors m) where

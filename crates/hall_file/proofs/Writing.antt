@@ -13,7 +13,7 @@ use Rattle.model.specs.Numbers.{number, some_number}
 use Rattle.model.specs.Store.{hall_in, decode, named_cells, file_of, file_in}
 use Rattle.model.specs.Calls.{or_else, if_accepted, check_number, write_number, write_into}
 use Rattle.model.specs.Answers.{WriteAnswers, given_as}
-use Rattle.model.specs.Refusals.{earlier, not_accepted}
+use Rattle.model.specs.Refusals.{handed_on, not_accepted}
 use Rattle.model.specs.FileWritten.{length_file}
 use Rattle.store.specs.Passed.{Passed, check_passed}
 
@@ -25,7 +25,7 @@ module _ (st out : List ℕ) where
 
   pub refused_store : (r : Refusal) → number r ≡ check_number st → number r ≡ write_number st (length out)
   unfolding write_number
-  refused_store r e = earlier r _ _ e
+  refused_store r e = handed_on r _ _ e
 
   -- the store is opened: the file, by the measures, base costs and count that were read
   module _ {m : Measures} {base : List ℕ} {count : ℕ} (p : Passed m st) (part : base ≡ (hall_in m st).base) (all : count ≡ length (named_cells base)) where

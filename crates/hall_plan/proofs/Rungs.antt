@@ -8,7 +8,7 @@ use borrow.Author.Tests.{ltb-true, ltb-false, lt-ltb, le-ltb, le-leb, lt-leb, eq
 use Rattle.laws.specs.Search.{neither}
 use Rattle.model.specs.Calls.{measures_of}
 use Rattle.model.specs.Answers.{refused_as, given_as}
-use Rattle.model.specs.Refusals.{earlier, later}
+use Rattle.model.specs.Refusals.{handed_on, later}
 
 -- ---- a number k by s, which is k up to 16
 ten : (k s : ℕ) → s ≡ min k 16 → ltb 10 k ≡ ltb 10 s
@@ -42,4 +42,4 @@ whole a b c k l m ea eb ec o s =
     let kc : c ≡ m = omega arith in
     rw (ka, kb, kc) refl
 
-pub ruleset rungs = (reaches, misses, none, some, above, earlier, later, refused_as, given_as, whole, lit<)
+pub ruleset rungs = (reaches, misses, none, some, above, handed_on, later, refused_as, given_as, whole, lit<)

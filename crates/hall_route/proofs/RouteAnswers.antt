@@ -20,7 +20,7 @@ use Rattle.model.specs.Calls.{or_else, if_accepted, check_number, step_list, out
 use Rattle.model.specs.Answers.{RouteAnswers, routed_as, given_as}
 use Rattle.store.specs.Passed.{Passed, check_passed}
 use Rattle.route.specs.Finding.{found_into}
-use Rattle.model.specs.Refusals.{earlier, not_accepted}
+use Rattle.model.specs.Refusals.{handed_on, not_accepted}
 
 -- how many steps were found
 steps_found : (found : Found) → routed_steps (Ok (outcome found)) ≡ length (step_list found)
@@ -40,7 +40,7 @@ module _ (st : List ℕ) (source goal : ℕ) (list : List ℕ) where
 
   pub refused_store : (r : Refusal) → number r ≡ check_number st → number r ≡ route_number st source goal (length list / 6)
   unfolding route_number
-  refused_store r e = earlier r _ _ e
+  refused_store r e = handed_on r _ _ e
 
   -- the store is opened
   module _ {m : Measures} (p : Passed m st) {size : ℕ} (all : size ≡ cells m) where

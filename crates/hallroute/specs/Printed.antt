@@ -89,14 +89,14 @@ module _ (file rest : List ℕ) where
   refused_lines zero h = absurd (omega arith)
   refused_lines (suc n) h = refl
 
-  pub refused : (r : Refusal) → number r ≡ file_number file → file_lines file rest ≡ text "hall refused " ++ (decimal (number r) ++ text "\n")
+  pub file_refused : (r : Refusal) → number r ≡ file_number file → file_lines file rest ≡ text "hall refused " ++ (decimal (number r) ++ text "\n")
   unfolding file_lines
-  refused r e = rw (← e) (refused_lines (number r) (some_number r))
+  file_refused r e = rw (← e) (refused_lines (number r) (some_number r))
 
   -- with any bytes behind the hall
-  pub opened : (st : List ℕ) {new : List ℕ} → 0 ≡ file_number file → new ≡ open_into file st → file_lines file rest ≡ pair_lines new rest
+  pub file_opened : (st : List ℕ) {new : List ℕ} → 0 ≡ file_number file → new ≡ open_into file st → file_lines file rest ≡ pair_lines new rest
   unfolding file_lines hall_lines open_into if_accepted
-  opened st e o = rw (o, ← e) (sym (lines_written (file_hall file) (file_laid file) st rest))
+  file_opened st e o = rw (o, ← e) (sym (lines_written (file_hall file) (file_laid file) st rest))
 
 module _ (input : List ℕ) where
   pub too_long : 65536 < length input → hallroute input ≡ text "too long\n"
@@ -106,6 +106,21 @@ module _ (input : List ℕ) where
   pub short : length input ≤ 65536 → hallroute input ≡ file_lines (take (file_size input) input) (drop (file_size input) input)
   unfolding hallroute
   short h = rw (le-ltb 65536 (length input) h)
+
+  module _ (within : length input ≤ 65536) where
+    abbrev file : List ℕ
+    file = take (file_size input) input
+
+    abbrev rest : List ℕ
+    rest = drop (file_size input) input
+
+    pub refused : (n : ℕ) → file_number file ≡ suc n → hallroute input ≡ text "hall refused " ++ (decimal (suc n) ++ text "\n")
+    unfolding file_lines
+    refused n e = short within ∙ rw e (refused_lines file rest (suc n) (omega arith))
+
+    -- with any bytes behind the hall
+    pub opened : (st : List ℕ) → file_number file ≡ 0 → hallroute input ≡ pair_lines (open_into file st) rest
+    opened st e = short within ∙ file_opened file rest st (sym e) refl
 
 -- the line of the first pair, and the lines after it
 first_four : (st rest : List ℕ) → pair_lines st rest ≡ pair_lines st (take (min (length rest) 4) rest) ++ pair_lines st (drop (min (length rest) 4) rest)

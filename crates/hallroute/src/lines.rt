@@ -13,19 +13,26 @@ use model::Refusal;
 use store::reading::u16_at;
 
 // The line of a pair. The list holds 1,001 steps.
-fn push_pair(st: &[u8], source: usize, goal: usize, steps: &mut [u8], line: &mut ArrayString<20100>)
-    requires { (length steps.old ≡ 6006) × (line.old.bytes ≡ []) }
+fn push_pair(
+    st: &[u8],
+    source: usize,
+    goal: usize,
+    steps: &mut [u8; 6006],
+    line: &mut ArrayString<20100>,
+)
+    requires { (line.old.bytes ≡ []) }
     ensures { line.new.bytes ≡ pair_line st.now source goal }
 {
     let answer = route(st, source, goal, steps);
     push_line(line, source, goal, answer, steps);
 }
 
-// The line of the four bytes of a pair, or `cut` where there are fewer.
-pub fn push_bytes(st: &[u8], pair: &[u8], steps: &mut [u8], line: &mut ArrayString<20100>)
-    requires { (0 < length pair.now) × (length pair.now ≤ 4) × (length steps.old ≡ 6006) × (line.old.bytes ≡ []) }
+// The line of the four bytes of a pair, or `cut` where there are fewer, in place of what the text had.
+pub fn push_bytes(st: &[u8], pair: &[u8], steps: &mut [u8; 6006], line: &mut ArrayString<20100>)
+    requires { (0 < length pair.now) × (length pair.now ≤ 4) }
     ensures { line.new.bytes ≡ pair_lines st.now pair.now }
 {
+    line.clear();
     if pair.len() < 4 {
         line.push_str("cut\n");
         return;

@@ -32,13 +32,12 @@ fn print_pair<W: Write>(
     out: &mut W,
     st: &[u8],
     pair: &[u8],
-    steps: &mut [u8],
+    steps: &mut [u8; 6006],
     line: &mut ArrayString<20100>,
 ) -> io::Result<()>
-    requires { (0 < length pair.now) × (length pair.now ≤ 4) × (length steps.old ≡ 6006) }
+    requires { (0 < length pair.now) × (length pair.now ≤ 4) }
     ensures { OnOk result (Appends (W.contents out.old) (W.contents out.new) (pair_lines st.now pair.now)) }
 {
-    line.clear();
     push_bytes(st, pair, steps, line);
     out.write_all(line.as_str().as_bytes())
 }

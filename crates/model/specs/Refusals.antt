@@ -11,8 +11,11 @@ unfolding or_else
 refused_first zero rest h = absurd (omega arith)
 refused_first (suc r) rest h = refl
 
-pub earlier : (r : Refusal) (v rest : ℕ) → number r ≡ v → number r ≡ or_else v rest
-earlier r v rest e = e ∙ refused_first v rest (omega (arith, some_number r))
+pub earlier : (n v rest : ℕ) → 0 < n → n ≡ v → n ≡ or_else v rest
+earlier n v rest h e = e ∙ refused_first v rest (omega arith)
+
+pub handed_on : (r : Refusal) (v rest : ℕ) → number r ≡ v → number r ≡ or_else v rest
+handed_on r v rest e = earlier (number r) v rest (some_number r) e
 
 -- 0 asks it, and then it decides
 pub later : (n v rest : ℕ) → 0 ≡ v → n ≡ rest → n ≡ or_else v rest

@@ -65,9 +65,9 @@ module _ (g : Graph) (rank : ℕ → ℕ) (a : ℕ) where
   unfolding better
   better_none = rw (eq-eqb g.nodes g.nodes refl)
 
-  pub better_some : (best : ℕ) → best < g.nodes → {x y : ℕ} → x ≡ rank a → y ≡ rank best → ltb x y ≡ better g rank a best
+  pub better_some : (best : ℕ) → (best ≡ g.nodes → ⊥) → {x y : ℕ} → x ≡ rank a → y ≡ rank best → ltb x y ≡ better g rank a best
   unfolding better
-  better_some best l e f = rw (ne_eqb best g.nodes (λ z. omega arith), e, f)
+  better_some best n e f = rw (ne_eqb best g.nodes n, e, f)
 
 -- ---- one arc
 -- arc a from u to v

@@ -17,6 +17,11 @@ abbrev pub calls_in : ℕ → List HallCall → List Call
 calls_in room [] = []
 calls_in room (c ∷ rest) = call_of room c ∷ calls_in room rest
 
+-- two changes and a route call
+example : calls_in 1001 (Change 0 255 ∷ Change 200 1 ∷ Route 5 7 ∷ []) ≡ change 0 255 ∷ change 200 1 ∷ route 5 7 1001 ∷ []
+unfolding calls_in call_of
+example = refl
+
 -- ---- what is lent, after calls
 -- the step list: route calls write it, on the store as it is then
 unfoldable pub steps_after_call : List ℕ → Call → List ℕ → List ℕ

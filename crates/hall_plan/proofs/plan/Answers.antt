@@ -2,14 +2,14 @@
 use lib.Ieee.{of_bits}
 use Rattle.laws.specs.Ladder.{ladder}
 use Rattle.model.specs.Calls.{measure_number, plan_number}
-use Rattle.model.specs.Refusals.{earlier}
+use Rattle.model.specs.Refusals.{handed_on}
 use Rattle.model.specs.Answers.{refused_on}
 use Rattle.hall_plan.proofs.Rungs.{rungs}
 use Rattle.hall_plan.proofs.plan.Goals as goal
 
 pub returns-in_err-check_values : goal.returns-in_err-check_values
 unfolding plan_number
-returns-in_err-check_values c = refused_on _ _ c.from_residual.ensures.1 (earlier _ _ _ c.in_err-check_values.ensures)
+returns-in_err-check_values c = refused_on _ _ c.from_residual.ensures.1 (handed_on _ _ _ c.in_err-check_values.ensures)
 
 pub returns-then-sector_columns-sector_rows : goal.returns-then-sector_columns-sector_rows
 unfolding plan_number measure_number of_bits

@@ -3,7 +3,7 @@ use Rattle.laws.specs.Ladder.{refuse_here, refuse_past, flag}
 use Rattle.model.specs.Calls.{entries_number, read_number}
 use Rattle.std.proofs.Common.{◌∙◌}
 use Rattle.model.specs.Numbers.{number_on}
-use Rattle.model.specs.Refusals.{earlier, later}
+use Rattle.model.specs.Refusals.{handed_on, later}
 use Rattle.hall_file.proofs.Reading.{form_whole, form_measures, form_head}
 use Rattle.store.specs.Checks.{size_found}
 use borrow.Author.Rules.{rules}
@@ -11,7 +11,7 @@ use Rattle.hall_file.proofs.read.check_file.Goals as goal
 
 pub returns-in_err-check_form : goal.returns-in_err-check_form
 unfolding read_number
-returns-in_err-check_form c = number_on _ _ c.from_residual.ensures.1 ∙ earlier _ _ _ c.in_err-check_form.ensures
+returns-in_err-check_form c = number_on _ _ c.from_residual.ensures.1 ∙ handed_on _ _ _ c.in_err-check_form.ensures
 
 pub any_off-requires : goal.any_off-requires
 any_off-requires c = search (rules, c.in_ok-check_form.ensures, form_whole)

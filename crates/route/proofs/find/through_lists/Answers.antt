@@ -1,5 +1,4 @@
 -- `through_lists` chooses a pair and takes the route over it.
-use borrow.Author.Rules.{rules}
 use native.Mathlib.Omega.{arith}
 use Prim.Native.Nat.{ℕ, ◌+◌, ◌*◌, ◌/◌, ◌%◌, ◌<◌}
 use mathlib.Core.Path.{◌≡◌, sym, ap, ◌∙◌, refl}
@@ -69,7 +68,7 @@ module _ (c : After-of_store-edges) where
 pub choose_pair-requires : goal.choose_pair-requires
 choose_pair-requires c =
     let same = counted (goal.at.choose_pair-requires c).After-of_store-edges in
-    record { lists = (c.requires.3 ∙ sym same, search rules, search rules); inside = (omega (arith, same, c.requires.0), omega (arith, same, c.requires.1)) }
+    record { lists = c.requires.3 ∙ sym same; inside = (omega (arith, same, c.requires.0), omega (arith, same, c.requires.1)) }
 
 pub returns-in_default : goal.returns-in_default
 returns-in_default c =
