@@ -6,9 +6,9 @@ use Rattle.hallroute.proofs.lines.push_pair.Goals as goal
 
 pub push_line-requires : goal.push_line-requires
 push_line-requires c =
-    let few = few_steps _ _ _ c.args.steps.now c.route-answer.ensures.answer c.requires.0 in
-    let empty : array_string_len c.args.line.now ≡ 0 = ap length c.requires.1 in
-    (omega (arith, few, empty), omega (arith, few, c.requires.0))
+    let few = few_steps _ _ _ c.args.steps.now c.route-answer.ensures.answer c.told-steps in
+    let empty : array_string_len c.args.line.now ≡ 0 = ap length c.requires in
+    (omega (arith, few, empty), omega (arith, few, c.told-steps))
 
 pub returns : goal.returns
-returns c = c.push_line.ensures ∙ rw c.requires.1 (line_of_pair _ _ _ c.args.steps.now c.route-answer.ensures.answer c.requires.0 c.route-answer.ensures.steps)
+returns c = c.push_line.ensures ∙ rw c.requires (line_of_pair _ _ _ c.args.steps.now c.route-answer.ensures.answer c.told-steps c.route-answer.ensures.steps)
