@@ -1,5 +1,5 @@
 -- A hall built, and a list of calls made in turn on its store: what this leaves in the memory that it is lent, and that it is a reached hall.
-use Rattle.std.specs.Prelude.{ℕ, ◌≡◌, List, [], ◌∷◌}
+use Rattle.std.specs.Prelude.{ℕ, ◌≡◌, refl, List, [], ◌∷◌}
 use Rattle.model.specs.declared.Measures.{Measures}
 use Rattle.model.specs.Account.{Call, change, route, opening, account_after}
 use Rattle.model.specs.Calls.{if_accepted, build_number, build_into, route_flat, store_after_call, store_after}
@@ -19,7 +19,7 @@ calls_in room (c ∷ rest) = call_of room c ∷ calls_in room rest
 
 -- two changes and a route call
 example : calls_in 1001 (Change 0 255 ∷ Change 200 1 ∷ Route 5 7 ∷ []) ≡ change 0 255 ∷ change 200 1 ∷ route 5 7 1001 ∷ []
-unfolding calls_in call_of
+unfolding call_of
 example = refl
 
 -- ---- what is lent, after calls
