@@ -9,13 +9,5 @@ pub fn step_in(flat: &[u8], k: usize) -> RouteStep
     requires { 6 * k + 6 ≤ length flat.now }
     ensures { result ≡ step_in flat.now k }
 {
-    let at = 6 * k;
-    RouteStep {
-        column: flat[at],
-        row: flat[at + 1],
-        goal: flat[at + 2],
-        side: flat[at + 3],
-        first: flat[at + 4],
-        last: flat[at + 5],
-    }
+    flat.as_chunks::<6>().0[k].into()
 }

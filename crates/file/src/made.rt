@@ -23,9 +23,7 @@ fn put_opening(m: Measures, count: usize, file: &mut [u8])
     requires { (count < 65536) × (5 ≤ length file.old) }
     ensures { file.new ≡ opening m count ++ drop 5 file.old }
 {
-    file[0] = m.columns;
-    file[1] = m.rows;
-    file[2] = m.scale;
+    file[..3].copy_from_slice(&<[u8; 3]>::from(m));
     put_u16(file, 3, count as u16);
 }
 

@@ -7,6 +7,7 @@ pub mod Ranges
 pub mod Spans
 pub mod Ladder
 pub mod Region
+pub mod Chunks
 pub mod Table
 pub mod Each
 pub mod Puts

@@ -2,8 +2,9 @@
 
 #![tactic(auto)]
 
-ghost use Rattle.std.specs.Prelude.{◌≡◌};
+ghost use Rattle.std.specs.Prelude.{◌≡◌, [], ◌∷◌};
 ghost use Rattle.model.specs.Numbers.{number};
+ghost use Rattle.model.specs.Steps.{step_bytes};
 
 // Item 1: a cell of a sector, column and row 0 to 9.
 #[derive(Clone, Copy)]
@@ -27,6 +28,27 @@ pub struct Measures {
     pub scale: u8,
 }
 
+// A hall's measures in bytes, as they open a store and a file.
+impl From<Measures> for [u8; 3] {
+    ghost from_gives = { λ m bytes. bytes ≡ m.columns ∷ m.rows ∷ m.scale ∷ [] };
+
+    fn from(m: Measures) -> [u8; 3] {
+        [m.columns, m.rows, m.scale]
+    }
+}
+
+impl From<[u8; 3]> for Measures {
+    ghost from_gives = { λ bytes m. m.columns ∷ m.rows ∷ m.scale ∷ [] ≡ bytes };
+
+    fn from([columns, rows, scale]: [u8; 3]) -> Measures {
+        Measures {
+            columns,
+            rows,
+            scale,
+        }
+    }
+}
+
 // Item 4: a step has a sector, a goal index and a window or none. Side 0 to 3 is N, E, S, W; side 4 says that there is no window, and then first and last are 0.
 #[derive(Clone, Copy)]
 pub struct RouteStep {
@@ -36,6 +58,37 @@ pub struct RouteStep {
     pub side: u8,
     pub first: u8,
     pub last: u8,
+}
+
+// A step's six bytes, in the order of its fields.
+impl From<RouteStep> for [u8; 6] {
+    ghost from_gives = { λ step bytes. bytes ≡ step_bytes step };
+
+    fn from(step: RouteStep) -> [u8; 6] {
+        [
+            step.column,
+            step.row,
+            step.goal,
+            step.side,
+            step.first,
+            step.last,
+        ]
+    }
+}
+
+impl From<[u8; 6]> for RouteStep {
+    ghost from_gives = { λ bytes step. step_bytes step ≡ bytes };
+
+    fn from([column, row, goal, side, first, last]: [u8; 6]) -> RouteStep {
+        RouteStep {
+            column,
+            row,
+            goal,
+            side,
+            first,
+            last,
+        }
+    }
 }
 
 // Item 5: the eight directions of a walk.
@@ -83,6 +136,15 @@ pub struct PortalWindow {
     pub first: u8,
     pub last: u8,
     pub side: u8,
+}
+
+// A window's three bytes, in the order of its fields.
+impl From<PortalWindow> for [u8; 3] {
+    ghost from_gives = { λ window bytes. bytes ≡ window.«first» ∷ window.last ∷ window.side ∷ [] };
+
+    fn from(window: PortalWindow) -> [u8; 3] {
+        [window.first, window.last, window.side]
+    }
 }
 
 // Item 8: the ten border cells of a side, and those of the side that it faces.

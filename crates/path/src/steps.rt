@@ -54,14 +54,7 @@ fn put_step(list: &mut [u8], step: RouteStep)
     requires { 6 ≤ length list.old }
     ensures { list.new ≡ step_bytes step ++ drop 6 list.old }
 {
-    list[..6].copy_from_slice(&[
-        step.column,
-        step.row,
-        step.goal,
-        step.side,
-        step.first,
-        step.last,
-    ]);
+    list[..6].copy_from_slice(&<[u8; 6]>::from(step));
 }
 
 // The last step, which has the goal and no window, at the front of a list.

@@ -28,9 +28,7 @@ fn put_window(list: &mut [u8], w: PortalWindow)
     requires { 3 ≤ length list.old }
     ensures { list.new ≡ over (w ∷ []) list.old }
 {
-    list[0] = w.first;
-    list[1] = w.last;
-    list[2] = w.side;
+    list[..3].copy_from_slice(&<[u8; 3]>::from(w));
 }
 
 // The windows of a side, at the front of a list, and how many there are.

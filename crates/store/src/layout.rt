@@ -96,9 +96,7 @@ fn put_measures(m: Measures, st: &mut [u8])
     requires { 4 ≤ length st.old }
     ensures { st.new ≡ header m ++ drop 4 st.old }
 {
-    st[0] = m.columns;
-    st[1] = m.rows;
-    st[2] = m.scale;
+    st[..3].copy_from_slice(&<[u8; 3]>::from(m));
     st[3] = 0;
 }
 

@@ -28,9 +28,5 @@ pub fn measures_at(bytes: &[u8]) -> Measures
     requires { 3 ≤ length bytes.now }
     ensures { result ≡ measures_at bytes.now }
 {
-    Measures {
-        columns: bytes[0],
-        rows: bytes[1],
-        scale: bytes[2],
-    }
+    Measures::from([bytes[0], bytes[1], bytes[2]])
 }
