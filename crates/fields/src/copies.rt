@@ -1,6 +1,14 @@
 // Lists put into others, whole or in part.
-ghost use Rattle.std.specs.Prelude.{◌≡◌, ◌+◌, ◌≤◌, length};
+ghost use Rattle.std.specs.Prelude.{◌≡◌, ◌++◌, ◌+◌, ◌≤◌, length, drop};
 ghost use Rattle.laws.specs.Region.{region, within, placed};
+
+// Puts a list in place of the front of another.
+pub fn put_front(list: &[u8], to: &mut [u8])
+    requires { length list.now ≤ length to.old }
+    ensures { to.new ≡ list.now ++ drop (length list.now) to.old }
+{
+    to[..list.len()].copy_from_slice(list);
+}
 
 // Puts a list in place of what stands from place a on.
 #[tactic(auto, using(laws::specs::Region::part_given))]

@@ -4,6 +4,7 @@ ghost use Rattle.laws.specs.Fold.{bit};
 ghost use Rattle.model.specs.Store.{is_named, named_cells, file_of};
 ghost use Rattle.file.specs.Making.{opening, put_cell};
 
+use fields::copies::put_front;
 use model::Measures;
 use store::reading::put_u16;
 
@@ -23,7 +24,7 @@ fn put_opening(m: Measures, count: usize, file: &mut [u8])
     requires { (count < 65536) × (5 ≤ length file.old) }
     ensures { file.new ≡ opening m count ++ drop 5 file.old }
 {
-    file[..3].copy_from_slice(&<[u8; 3]>::from(m));
+    put_front(&<[u8; 3]>::from(m), file);
     put_u16(file, 3, count as u16);
 }
 

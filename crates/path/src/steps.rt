@@ -7,6 +7,7 @@ ghost use Rattle.model.specs.Route.{step_at, steps_of};
 ghost use Rattle.store.specs.Stored.{stored};
 ghost use Rattle.path.specs.PortalPaths.{PortalPath};
 
+use fields::copies::put_front;
 use fields::sectors::SECTOR_CELLS;
 use graph::portals::{midpoint, portal_sector, window_of_portal};
 use model::{Measures, RouteStep, SectorID};
@@ -49,14 +50,6 @@ fn step_at(hall: &Opened<'_>, p: usize) -> RouteStep
     }
 }
 
-// One step, at the front of a list.
-fn put_step(list: &mut [u8], step: RouteStep)
-    requires { 6 ≤ length list.old }
-    ensures { list.new ≡ step_bytes step ++ drop 6 list.old }
-{
-    list[..6].copy_from_slice(&<[u8; 6]>::from(step));
-}
-
 // The last step, which has the goal and no window, at the front of a list.
 pub fn write_last(m: Measures, s: usize, goal: usize, list: &mut [u8])
     requires { (1 ≤ m.rows) × (s < 256) × (6 ≤ length list.old) }
@@ -71,7 +64,7 @@ pub fn write_last(m: Measures, s: usize, goal: usize, list: &mut [u8])
         first: 0,
         last: 0,
     };
-    put_step(list, step);
+    put_front(&<[u8; 6]>::from(step), list);
 }
 
 // The steps of a path of portals, at the front of a list.
@@ -82,7 +75,7 @@ pub fn write_steps(hall: &Opened<'_>, nodes: &[u16], goal: usize, list: &mut [u8
     let count = nodes.len() / 2;
     for i in 0..count {
         let step = step_at(hall, usize::from(nodes[2 * i]));
-        put_step(&mut list[6 * i..], step);
+        put_front(&<[u8; 6]>::from(step), &mut list[6 * i..]);
     }
     let last = portal_sector(usize::from(nodes[nodes.len() - 1]));
     write_last(hall.store.measures, last, goal, &mut list[6 * count..]);

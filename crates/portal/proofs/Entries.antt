@@ -2,12 +2,12 @@
 use mathlib.Core.Path.{◌≡◌, refl, sym, ap, ◌∙◌}
 use mathlib.Core.List.{List, [], ◌∷◌, ◌++◌, append_assoc, append-nil}
 use Prim.Native.Nat.{ℕ, zero, suc, ◌+◌, ◌-◌, ◌*◌, ◌≤◌, ◌<◌}
-use native.Mathlib.Nat.{not-suc-le-zero, le_of_suc-le-suc, add-zero}
+use native.Mathlib.Nat.{add-zero}
 use native.Mathlib.Numerals.{add-one}
 use native.Mathlib.Omega.{arith}
 use mir.Val.{Fits}
 use mir.Syntax.{w64}
-use lib.ListN.{length, get_or, take, drop, set, length-append, length-take, length-drop, drop_of_length-le}
+use lib.ListN.{length, get_or, take, drop, length-append, length-take, length-drop, drop_of_length-le}
 use lib.Seq.{take_at, drop_at, drop-drop, take_all}
 use borrow.Rule.Slice.PartMut.{put_mid}
 use Rattle.laws.specs.Table.{tabulate, length_tabulate, tabulate_more}
@@ -40,12 +40,6 @@ window_is side mark j e f g k n =
     let z = g ∙ ap (λ p. border side p.last) e in
     let s = n ∙ k in
     λ i. record { «first» = a i; last = z i; side = s i }
-
-pub set_three : (a b c : ℕ) (xs : List ℕ) → 3 ≤ length xs → set (set (set xs 0 a) 1 b) 2 c ≡ a ∷ b ∷ c ∷ drop 3 xs
-set_three a b c [] h = absurd (not-suc-le-zero h)
-set_three a b c (x ∷ []) h = absurd (not-suc-le-zero (le_of_suc-le-suc h))
-set_three a b c (x ∷ y ∷ []) h = absurd (not-suc-le-zero (le_of_suc-le-suc (le_of_suc-le-suc h)))
-set_three a b c (x ∷ y ∷ z ∷ xs) h = refl
 
 -- ---- the bytes of windows
 flat_append : (ws vs : List PortalWindow) → flat_windows (ws ++ vs) ≡ flat_windows ws ++ flat_windows vs

@@ -5,6 +5,7 @@ ghost use Rattle.portal.specs.SectorWindows.{windows_by, FourMarks, over};
 
 use crate::border::border_index;
 use crate::runs::{window_at, window_count};
+use fields::copies::put_front;
 use fields::sides::SIDES;
 use model::{PortalWindow, Side};
 
@@ -23,12 +24,12 @@ pub fn window_of(side: Side, mark: u16, j: usize) -> PortalWindow
 }
 
 // One entry, at the front of a list.
-#[tactic(auto, using(crate::proofs::Entries::set_three), unfolding(model::specs::Calls::flat_windows))]
+#[tactic(auto, unfolding(model::specs::Calls::flat_windows))]
 fn put_window(list: &mut [u8], w: PortalWindow)
     requires { 3 ≤ length list.old }
     ensures { list.new ≡ over (w ∷ []) list.old }
 {
-    list[..3].copy_from_slice(&<[u8; 3]>::from(w));
+    put_front(&<[u8; 3]>::from(w), list);
 }
 
 // The windows of a side, at the front of a list, and how many there are.

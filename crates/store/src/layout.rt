@@ -7,7 +7,7 @@ ghost use Rattle.model.specs.StoreLayout.{Laid};
 ghost use Rattle.store.specs.Layout.{hall_of, sector_marks};
 
 use crate::reading::{put_u16, u16_at};
-use fields::copies::put_part;
+use fields::copies::{put_front, put_part};
 use fields::sectors::{SECTOR_CELLS, cells, sectors};
 use model::Measures;
 
@@ -96,7 +96,7 @@ fn put_measures(m: Measures, st: &mut [u8])
     requires { 4 ≤ length st.old }
     ensures { st.new ≡ header m ++ drop 4 st.old }
 {
-    st[..3].copy_from_slice(&<[u8; 3]>::from(m));
+    put_front(&<[u8; 3]>::from(m), st);
     st[3] = 0;
 }
 

@@ -35,7 +35,7 @@ step_at-step-requires c = rw c.from.ensures (portal_at (goal.at.step_at-step-req
 pub loop-i-preserved : goal.loop-i-preserved
 loop-i-preserved c =
     stepped_turn c.loop-i.invariant c.requires.1 (omega arith) (c.step_at-step.ensures ∙ ap (step_at (stored c.args.hall.now)) c.from.ensures)
-    c.put_step.ensures
+    (rw c.from-in-loop-i.ensures at c.put_front.ensures)
 
 pub write_last-requires : goal.write_last-requires
 write_last-requires c =
