@@ -1,6 +1,6 @@
 -- The moves between a cell and the portals of its sector, as one list by place; by it go the start portals, the end portals, leg and the last moves.
-use Rattle.std.specs.Prelude.{if◌then◌else◌, Option, Some, None, unwrap_or, ℕ, ◌≤◌, ◌<◌, ◌≡◌, ◌⊎◌, Bool, ◌&&◌, List, get_or}
-use Rattle.std.proofs.Common.{arith, sym, ap, ◌∙◌, inl, inr}
+use Rattle.std.specs.Prelude.{if◌then◌else◌, Option, Some, None, is_some, IsSome, ℕ, ◌≤◌, ◌<◌, ◌≡◌, ◌⊎◌, Bool, ◌&&◌, List, length, get_or}
+use Rattle.std.proofs.Common.{arith, sym, ap, ◌∙◌, inl, inr, ext_get_or}
 use Rattle.std.proofs.Math.Path.{refl}
 use Rattle.std.proofs.Math.Bool.{true, false}
 use Rattle.std.proofs.Math.Dec.{ltb}
@@ -8,7 +8,8 @@ use borrow.Author.Tests.{lt-ltb, le-ltb, eq-eqb, ne_eqb}
 use Rattle.laws.specs.Fold.{pick}
 use Rattle.laws.specs.Search.{both}
 use Rattle.laws.specs.Graph.{below_or}
-use Rattle.laws.specs.Table.{tabulate, tabulate_at, table_at, Tabled, tabled_same, tabled_all}
+use Rattle.laws.specs.Options.{some_if}
+use Rattle.laws.specs.Table.{tabulate, length_tabulate, tabulate_at, table_at}
 use Rattle.model.specs.Sectors.{sector_cells, sector_of, place_of, costs_of}
 use Rattle.model.specs.Moves.{moves, moves_to, joined, apart}
 use Rattle.model.specs.MovesFewest.{joined_back, moves_settled}
@@ -17,44 +18,38 @@ use Rattle.model.specs.Portals.{sector_portals, place_portal, is_portal, midpoin
 use Rattle.moves.specs.Levels.{moves_or_none}
 use Rattle.model.specs.PortalCrossings.{Fits, mid_low, mid_sector, mid_place}
 
--- the index of a portal's midpoint, or 100
-unfoldable pub mid_of : Hall → ℕ → ℕ
-mid_of h p = pick (is_portal h p) (midpoint h p) sector_cells
+-- the index of a portal's midpoint
+unfoldable pub mid_of : Hall → ℕ → Option ℕ
+mid_of h p = if is_portal h p then Some (midpoint h p) else None
 
-unfoldable pub sector_mids : Hall → ℕ → List ℕ
+unfoldable pub sector_mids : Hall → ℕ → List (Option ℕ)
 sector_mids h s = tabulate (λ c. mid_of h (place_portal s c)) sector_portals 0
 
 -- the moves to a midpoint, by the moves to the cells of its sector
-unfoldable pub near_by : List ℕ → ℕ → ℕ
-near_by from mid = pick (ltb mid sector_cells) (get_or from mid 0) apart
+unfoldable pub near_by : List ℕ → Option ℕ → Option ℕ
+near_by from None = None
+near_by from (Some mid) = if ltb mid sector_cells then moves_or_none (get_or from mid 0) else None
 
 -- from cell x to the portals of its sector
-unfoldable pub portal_moves : Hall → ℕ → List ℕ
+unfoldable pub portal_moves : Hall → ℕ → List (Option ℕ)
 portal_moves h x = tabulate (λ c. near_by (moves (costs_of h.scaled (sector_of x)) (place_of x)) (mid_of h (place_portal (sector_of x) c))) sector_portals 0
 
 -- in the cases that code meets
-pub mid_some : (h : Hall) (p : ℕ) {n : ℕ} → is_portal h p ≡ true → n ≡ midpoint h p → n ≡ mid_of h p
+pub mid_some : (h : Hall) (p : ℕ) {n : ℕ} → is_portal h p ≡ true → n ≡ midpoint h p → Some n ≡ mid_of h p
 unfolding mid_of
-mid_some h p e f = rw e f
+mid_some h p e f = rw (e, f) refl
 
-pub mid_none : (h : Hall) (p : ℕ) → is_portal h p ≡ false → sector_cells ≡ mid_of h p
+pub mid_none : (h : Hall) (p : ℕ) → is_portal h p ≡ false → None ≡ mid_of h p
 unfolding mid_of
 mid_none h p e = rw e refl
 
-pub near_none : (from : List ℕ) (mid : ℕ) → sector_cells ≤ mid → apart ≡ near_by from mid
+pub near_none : (from : List ℕ) (mid : ℕ) → sector_cells ≤ mid → None ≡ near_by from (Some mid)
 unfolding near_by
-near_none from mid l = rw (le-ltb mid sector_cells l)
+near_none from mid l = rw (le-ltb mid sector_cells l) refl
 
-pub near_some : (from : List ℕ) (mid : ℕ) {n : ℕ} → mid < sector_cells → n ≡ mid → get_or from n 0 ≡ near_by from mid
+pub near_some : (from : List ℕ) (mid : ℕ) {n : ℕ} → mid < sector_cells → n ≡ mid → moves_or_none (get_or from n 0) ≡ near_by from (Some mid)
 unfolding near_by
-near_some from mid l e = rw (lt-ltb mid sector_cells l, e)
-
--- the same as code answers it
-pub answer_none : (from : List ℕ) (mid : ℕ) → sector_cells ≤ mid → None ≡ moves_or_none (near_by from mid)
-answer_none from mid l = rw (← near_none from mid l) refl
-
-pub answer_some : (from : List ℕ) (mid : ℕ) → mid < sector_cells → moves_or_none (get_or from mid 0) ≡ moves_or_none (near_by from mid)
-answer_some from mid l = ap moves_or_none (near_some from mid l refl)
+near_some from mid l e = rw (lt-ltb mid sector_cells l, e) refl
 
 pub other_sector : (costs : List ℕ) (x y : ℕ) → (sector_of x ≡ sector_of y → ⊥) → apart ≡ pick (joined costs x y) (moves_to costs x y) apart
 unfolding joined
@@ -84,25 +79,21 @@ pub answer_same : (costs : List ℕ) (x y : ℕ) {from : List ℕ} → sector_of
 unfolding joined moves_to
 answer_same costs x y {from} e f = rw (f, eq-eqb (sector_of x) (sector_of y) e) refl
 
--- an entry's byte
-pub near_byte : (costs : List ℕ) (x mid : ℕ) {from : List ℕ} {o : Option ℕ} → x < sector_cells → from ≡ moves costs x → o ≡ moves_or_none (near_by from mid) → unwrap_or o apart ≡ near_by from mid
-unfolding near_by
-near_byte costs x mid {from} l e f = rw f (same (near_by from mid) (small (below_or mid sector_cells)) (below_or (near_by from mid) apart))
-  where
-    small : (mid < sector_cells) ⊎ (sector_cells ≤ mid) → near_by from mid ≤ apart
-    small (inl b) = rw (lt-ltb mid sector_cells b, e) ((moves_settled costs x l).rough.capped mid b)
-    small (inr b) = rw (le-ltb mid sector_cells b) (omega arith)
+-- a list with the rule at each place
+listed : {A : Type 0} (z : A) (rule : ℕ → A) (n : ℕ) {list : List A} → length list ≡ n → ((k : ℕ) → k < n → get_or list k z ≡ rule k) → list ≡ tabulate rule n 0
+listed z rule n {list} l at = ext_get_or z list (tabulate rule n 0) (l ∙ sym (length_tabulate rule n 0)) (λ k b. at k (omega arith) ∙ sym (tabulate_at rule n k z (omega arith)))
 
-    same : (n : ℕ) → n ≤ apart → (n < apart) ⊎ (apart ≤ n) → unwrap_or (moves_or_none n) apart ≡ n
-    same n h (inl b) = rw (lt-ltb n apart b) refl
-    same n h (inr b) = rw (le-ltb n apart b) (omega arith)
+pub mids_list : (h : Hall) (s : ℕ) {mids : List (Option ℕ)} → length mids ≡ sector_portals → ((k : ℕ) → k < sector_portals → get_or mids k None ≡ mid_of h (place_portal s k)) → mids ≡ sector_mids h s
+unfolding sector_mids
+mids_list h s l at = listed None (λ c. mid_of h (place_portal s c)) sector_portals l at
 
 -- entries by the moves of the sector and its midpoints
-pub near_list : (h : Hall) (x : ℕ) {from mids near : List ℕ} {c : ℕ} → from ≡ moves (costs_of h.scaled (sector_of x)) (place_of x) → mids ≡ sector_mids h (sector_of x)
-    → Tabled (λ k. near_by from (get_or mids k 0)) sector_portals c near → sector_portals ≤ c → near ≡ portal_moves h x
+pub near_list : (h : Hall) (x : ℕ) {from : List ℕ} {mids near : List (Option ℕ)} → from ≡ moves (costs_of h.scaled (sector_of x)) (place_of x) → mids ≡ sector_mids h (sector_of x)
+    → length near ≡ sector_portals → ((k : ℕ) → k < sector_portals → get_or near k None ≡ near_by from (get_or mids k None)) → near ≡ portal_moves h x
 unfolding sector_mids portal_moves
-near_list h x {from} {mids} e f t l =
-    tabled_all (tabled_same t (λ k b. rw e (ap (near_by (moves (costs_of h.scaled (sector_of x)) (place_of x))) (table_at (λ c. mid_of h (place_portal (sector_of x) c)) sector_portals f k 0 b)))) l
+near_list h x {from} {mids} e f l at =
+    listed None (λ c. near_by (moves (costs_of h.scaled (sector_of x)) (place_of x)) (mid_of h (place_portal (sector_of x) c))) sector_portals l (λ k b.
+    at k b ∙ rw e (ap (near_by (moves (costs_of h.scaled (sector_of x)) (place_of x))) (table_at (λ c. mid_of h (place_portal (sector_of x) c)) sector_portals f k None b)))
 
 -- "joined" goes both ways
 joined_same : (costs : List ℕ) (x y : ℕ) → joined costs y x ≡ joined costs x y
@@ -114,49 +105,55 @@ joined_same costs x y = go (joined costs x y) (joined costs y x) refl refl
     go false true e f = sym (joined_back costs y x f).0 ∙ e
     go false false e f = refl
 
+some_test : (t : Bool) (n : ℕ) → is_some (if t then Some n else None) ≡ t
+some_test true n = refl
+some_test false n = refl
+
 -- ---- what the entry of place c says
 module _ (h : Hall) (fits : Fits h) (x c : ℕ) (low : c < sector_portals) where
   abbrev number : ℕ
   number = place_portal (sector_of x) c
 
-  entry_is : get_or (portal_moves h x) c 0 ≡ near_by (moves (costs_of h.scaled (sector_of x)) (place_of x)) (mid_of h number)
+  entry_is : get_or (portal_moves h x) c None ≡ near_by (moves (costs_of h.scaled (sector_of x)) (place_of x)) (mid_of h number)
   unfolding portal_moves
-  entry_is = tabulate_at (λ d. near_by (moves (costs_of h.scaled (sector_of x)) (place_of x)) (mid_of h (place_portal (sector_of x) d))) sector_portals c 0 low
+  entry_is = tabulate_at (λ d. near_by (moves (costs_of h.scaled (sector_of x)) (place_of x)) (mid_of h (place_portal (sector_of x) d))) sector_portals c None low
 
-  none_there : is_portal h number ≡ false → get_or (portal_moves h x) c 0 ≡ apart
+  none_there : is_portal h number ≡ false → get_or (portal_moves h x) c None ≡ None
   unfolding mid_of near_by
   none_there e = entry_is ∙ rw e refl
 
   -- the midpoint lies in the sector, and the entry has the moves to it
   record There : Type 0 where
     sector : sector_of x ≡ sector_of (mid_cell h number)
-    moved : get_or (portal_moves h x) c 0 ≡ moves_to h.scaled x (mid_cell h number)
+    moved : get_or (portal_moves h x) c None ≡ moves_or_none (moves_to h.scaled x (mid_cell h number))
 
   there : is_portal h number ≡ true → There
   unfolding mid_of near_by moves_to
   there e =
       record { sector = omega (arith, mid_sector h fits number e); moved = entry_is ∙ rw (e, lt-ltb (midpoint h number) sector_cells (mid_low h fits number e), mid_place h fits number e) }
 
-  -- THE STARTS AND ENDS: a number's portal is joined to the cell exactly where the entry is below `apart`
-  pub start_test : (is_portal h number && joined h.scaled x (mid_cell h number)) ≡ ltb (get_or (portal_moves h x) c 0) apart
+  -- THE STARTS AND ENDS: a number's portal is joined to the cell exactly where the entry has moves
+  pub start_test : (is_portal h number && joined h.scaled x (mid_cell h number)) ≡ is_some (get_or (portal_moves h x) c None)
   unfolding joined
   start_test = go (is_portal h number) refl
     where
-      go : (t : Bool) → is_portal h number ≡ t → (t && joined h.scaled x (mid_cell h number)) ≡ ltb (get_or (portal_moves h x) c 0) apart
+      go : (t : Bool) → is_portal h number ≡ t → (t && joined h.scaled x (mid_cell h number)) ≡ is_some (get_or (portal_moves h x) c None)
       go false e = rw (none_there e) refl
-      go true e = let t = there e in rw (eq-eqb (sector_of x) (sector_of (mid_cell h number)) t.sector, t.moved)
+      go true e = let t = there e in rw (eq-eqb (sector_of x) (sector_of (mid_cell h number)) t.sector, t.moved) (sym (some_test (ltb (moves_to h.scaled x (mid_cell h number)) apart) (moves_to h.scaled x (mid_cell h number))))
 
-  pub end_test : (is_portal h number && joined h.scaled (mid_cell h number) x) ≡ ltb (get_or (portal_moves h x) c 0) apart
+  pub end_test : (is_portal h number && joined h.scaled (mid_cell h number) x) ≡ is_some (get_or (portal_moves h x) c None)
   end_test = rw (joined_same h.scaled x (mid_cell h number)) start_test
 
   -- and then it has the moves, from the cell and to it
-  pub near_portal : get_or (portal_moves h x) c 0 < apart → is_portal h number ≡ true
-  near_portal l = (both (is_portal h number) (joined h.scaled x (mid_cell h number)) (start_test ∙ lt-ltb (get_or (portal_moves h x) c 0) apart l)).0
+  pub near_portal : IsSome (get_or (portal_moves h x) c None) → is_portal h number ≡ true
+  near_portal l = (both (is_portal h number) (joined h.scaled x (mid_cell h number)) (start_test ∙ l)).0
 
-  pub leg_moves : get_or (portal_moves h x) c 0 < apart → moves_to h.scaled x (mid_cell h number) ≡ get_or (portal_moves h x) c 0
-  leg_moves l = sym (there (near_portal l)).moved
+  pub leg_moves : {n : ℕ} → Some n ≡ get_or (portal_moves h x) c None → moves_to h.scaled x (mid_cell h number) ≡ n
+  leg_moves {n} e =
+      let t = there (near_portal (ap is_some (sym e))) in
+      sym (some_if (ltb (moves_to h.scaled x (mid_cell h number)) apart) (moves_to h.scaled x (mid_cell h number)) (e ∙ t.moved)).1
 
-  pub last_moves_lem : get_or (portal_moves h x) c 0 < apart → moves_to h.scaled (mid_cell h number) x ≡ get_or (portal_moves h x) c 0
-  last_moves_lem l =
-      let t = both (is_portal h number) (joined h.scaled x (mid_cell h number)) (start_test ∙ lt-ltb (get_or (portal_moves h x) c 0) apart l) in
-      (joined_back h.scaled x (mid_cell h number) t.1).1 ∙ leg_moves l
+  pub last_moves_lem : {n : ℕ} → Some n ≡ get_or (portal_moves h x) c None → moves_to h.scaled (mid_cell h number) x ≡ n
+  last_moves_lem {n} e =
+      let t = both (is_portal h number) (joined h.scaled x (mid_cell h number)) (start_test ∙ ap is_some (sym e)) in
+      (joined_back h.scaled x (mid_cell h number) t.1).1 ∙ leg_moves e
