@@ -1,73 +1,74 @@
 -- The runs of all pairs, and that the first of the least in the order of pairs is 01's pair.
-use Rattle.std.specs.Prelude.{ℕ, ◌+◌, ◌*◌, ◌/◌, ◌%◌, ◌≤◌, ◌<◌, ◌≡◌, Bool, ◌&&◌, List, [], ◌∷◌, get_or}
+use Rattle.std.specs.Prelude.{Option, Some, None, is_some, IsSome, unwrap_or, ℕ, ◌+◌, ◌*◌, ◌/◌, ◌%◌, ◌≤◌, ◌<◌, ◌≡◌, Bool, ◌&&◌, List, [], ◌∷◌, get_or}
 use Rattle.std.proofs.Common.{arith, sym, ◌∙◌}
 use Rattle.std.proofs.Math.Path.{refl, ap}
 use Rattle.std.proofs.Math.Bool.{true, false}
 use Rattle.std.proofs.Math.Option.{none, some}
 use Rattle.std.proofs.Math.Dec.{ltb}
-use borrow.Author.Tests.{ltb-true, lt-ltb, le-ltb}
+use borrow.Author.Tests.{ltb-true, lt-ltb}
 use Rattle.laws.specs.Fold.{pick}
 use Rattle.laws.specs.Graph.{Graph}
 use Rattle.laws.specs.FirstLeast.{Foremost, foremost_is}
 use Rattle.laws.specs.Winner.{winner, Holds, empty, holds, row_none, row_some}
 use Rattle.laws.specs.Spans.{spans, cell, pairs_in_row}
 use Rattle.model.specs.Sectors.{sector_of}
-use Rattle.model.specs.Moves.{joined, apart}
+use Rattle.model.specs.Moves.{joined}
 use Rattle.model.specs.Halls.{Hall}
 use Rattle.model.specs.Portals.{sector_portals, place_portal, is_portal, mid_cell, portal_graph}
 use Rattle.model.specs.LeastPath.{unlinked, keys_to, cost_of_key}
 use Rattle.model.specs.PortalCrossings.{Fits}
 use Rattle.model.specs.Route.{starts, ends, end_of, Pair, linked_pair, run_of, route_pairs, chosen_pair}
-use Rattle.graph.specs.Near.{portal_moves, start_test, end_test, last_moves_lem}
+use Rattle.graph.specs.Near.{portal_moves, start_test, end_test, near_low, last_moves_lem}
 
 -- the run of a pair, or `unlinked` where a start or end is none or no path joins them
-unfoldable pub run_for : ℕ → ℕ → ℕ → ℕ
-run_for key leg last = pick (ltb leg apart && (ltb last apart && ltb key unlinked)) (cost_of_key key + last) unlinked
+unfoldable pub run_for : ℕ → Option ℕ → Option ℕ → ℕ
+run_for key leg last = pick (is_some leg && (is_some last && ltb key unlinked)) (cost_of_key key + unwrap_or last 0) unlinked
 
 -- in the cases that code meets
-module _ (key leg last : ℕ) where
-  pub no_leg : leg ≡ 255 → unlinked ≡ run_for key leg last
+module _ (key : ℕ) (leg last : Option ℕ) where
+  pub no_leg : leg ≡ None → unlinked ≡ run_for key leg last
   unfolding run_for
   no_leg e = rw e refl
 
-  pub no_last : 255 ≤ last → unlinked ≡ run_for key leg last
+  pub no_last : last ≡ None → unlinked ≡ run_for key leg last
   unfolding run_for
-  no_last l = go (ltb leg apart)
+  no_last e = rw e (go (is_some leg))
     where
-      go : (t : Bool) → unlinked ≡ pick (t && (ltb last apart && ltb key unlinked)) (cost_of_key key + last) unlinked
-      go true = rw (le-ltb last apart l) refl
+      go : (t : Bool) → unlinked ≡ pick (t && (false && ltb key unlinked)) (cost_of_key key + 0) unlinked
+      go true = refl
       go false = refl
 
   pub no_path : key ≡ unlinked → unlinked ≡ run_for key leg last
   unfolding run_for
-  no_path e = go (ltb leg apart) (ltb last apart)
+  no_path e = go (is_some leg) (is_some last)
     where
-      go : (t s : Bool) → unlinked ≡ pick (t && (s && ltb key unlinked)) (cost_of_key key + last) unlinked
+      go : (t s : Bool) → unlinked ≡ pick (t && (s && ltb key unlinked)) (cost_of_key key + unwrap_or last 0) unlinked
       go true true = rw e refl
       go true false = refl
       go false s = refl
 
-  pub some_run : leg < apart → last < apart → key < unlinked → cost_of_key key + last ≡ run_for key leg last
+  pub some_run : IsSome leg → IsSome last → key < unlinked → cost_of_key key + unwrap_or last 0 ≡ run_for key leg last
   unfolding run_for
-  some_run a b d = rw (lt-ltb leg apart a, lt-ltb last apart b, lt-ltb key unlinked d)
+  some_run a b d = rw (a, b, lt-ltb key unlinked d)
+
+-- the value that is there
+pub some_of : (o : Option ℕ) → IsSome o → Some (unwrap_or o 0) ≡ o
+some_of (Some n) e = refl
+some_of None e = cc
 
 -- a run below `unlinked`
-pub record Joins (key leg last : ℕ) : Type 0 where
-  pub near_start : leg < apart
-  pub near_end : last < apart
+pub record Joins (key : ℕ) (leg last : Option ℕ) : Type 0 where
+  pub near_start : IsSome leg
+  pub near_end : IsSome last
   pub linked : key < unlinked
-  pub run : run_for key leg last ≡ cost_of_key key + last
+  pub run : run_for key leg last ≡ cost_of_key key + unwrap_or last 0
 
-pub joins : (key leg last : ℕ) → run_for key leg last < unlinked → Joins key leg last
+pub joins : (key : ℕ) (leg last : Option ℕ) → run_for key leg last < unlinked → Joins key leg last
 unfolding run_for
-joins key leg last low = go (ltb leg apart) (ltb last apart) (ltb key unlinked) refl refl refl low
+joins key leg last low = go (is_some leg) (is_some last) (ltb key unlinked) refl refl refl low
   where
-    go : (a b c : Bool) → ltb leg apart ≡ a → ltb last apart ≡ b → ltb key unlinked ≡ c → pick (a && (b && c)) (cost_of_key key + last) unlinked < unlinked → Joins key leg last
-    go true true true e f g l =
-        let x = ltb-true leg apart e in
-        let y = ltb-true last apart f in
-        let z = ltb-true key unlinked g in
-        record { near_start = x; near_end = y; linked = z; run = sym (some_run key leg last x y z) }
+    go : (a b c : Bool) → is_some leg ≡ a → is_some last ≡ b → ltb key unlinked ≡ c → pick (a && (b && c)) (cost_of_key key + unwrap_or last 0) unlinked < unlinked → Joins key leg last
+    go true true true e f g l = let z = ltb-true key unlinked g in record { near_start = e; near_end = f; linked = z; run = sym (some_run key leg last e f z) }
     go false b c e f g l = absurd (omega arith)
     go true false c e f g l = absurd (omega arith)
     go true true false e f g l = absurd (omega arith)
@@ -77,8 +78,8 @@ joins key leg last low = go (ltb leg apart) (ltb last apart) (ltb key unlinked) 
 abbrev pub sector_pairs : ℕ
 sector_pairs = sector_portals * sector_portals
 
-abbrev pub pair_run : Graph → List ℕ → List ℕ → ℕ → ℕ → ℕ → ℕ
-pair_run g legs lasts p q j = run_for (get_or (keys_to g (q + j % sector_portals)) (p + j / sector_portals) 0) (get_or legs (j / sector_portals) 0) (get_or lasts (j % sector_portals) 0)
+abbrev pub pair_run : Graph → List (Option ℕ) → List (Option ℕ) → ℕ → ℕ → ℕ → ℕ
+pair_run g legs lasts p q j = run_for (get_or (keys_to g (q + j % sector_portals)) (p + j / sector_portals) 0) (get_or legs (j / sector_portals) None) (get_or lasts (j % sector_portals) None)
 
 -- ---- the pair
 module _ (h : Hall) (source goal : ℕ) where
@@ -89,11 +90,11 @@ module _ (h : Hall) (source goal : ℕ) where
   abbrev pub key_at : ℕ → ℕ
   key_at j = get_or (keys_to (portal_graph h) (place_portal (sector_of goal) (j % sector_portals))) (place_portal (sector_of source) (j / sector_portals)) 0
 
-  abbrev pub leg_at : ℕ → ℕ
-  leg_at j = get_or (portal_moves h source) (j / sector_portals) 0
+  abbrev pub leg_at : ℕ → Option ℕ
+  leg_at j = get_or (portal_moves h source) (j / sector_portals) None
 
-  abbrev pub last_at : ℕ → ℕ
-  last_at j = get_or (portal_moves h goal) (j % sector_portals) 0
+  abbrev pub last_at : ℕ → Option ℕ
+  last_at j = get_or (portal_moves h goal) (j % sector_portals) None
 
   abbrev pub run_at : ℕ → ℕ
   run_at = pair_run (portal_graph h) (portal_moves h source) (portal_moves h goal) (sector_of source * sector_portals) (sector_of goal * sector_portals)
@@ -120,29 +121,29 @@ module _ (h : Hall) (source goal : ℕ) where
         (λ p. is_portal h p && joined h.scaled (mid_cell h p) goal)
         sector_portals (sector_of goal * sector_portals) sector_portals (sector_of source * sector_portals)
 
-    cell_is : (j : ℕ) → j < sector_pairs → cells j ≡ pick (ltb (leg_at j) apart) (pick (ltb (last_at j) apart) (pick (ltb (key_at j) unlinked) (pair_at j ∷ []) []) []) []
+    cell_is : (j : ℕ) → j < sector_pairs → cells j ≡ pick (is_some (leg_at j)) (pick (is_some (last_at j)) (pick (ltb (key_at j) unlinked) (pair_at j ∷ []) []) []) []
     unfolding cells linked_pair end_of
     cell_is j l = rw (start_test h fits source (j / sector_portals) (omega arith), end_test h fits goal (j % sector_portals) (omega arith))
 
     -- what stands at place j
     module _ (j : ℕ) (l : j < sector_pairs) where
       held : Joins (key_at j) (leg_at j) (last_at j) → cells j ≡ pair_at j ∷ []
-      held z = cell_is j l ∙ rw (lt-ltb (leg_at j) apart z.near_start, lt-ltb (last_at j) apart z.near_end, lt-ltb (key_at j) unlinked z.linked)
+      held z = cell_is j l ∙ rw (z.near_start, z.near_end, lt-ltb (key_at j) unlinked z.linked)
 
       place : Holds run_of unlinked (run_at j) (cells j)
       unfolding run_for run_of end_of
-      place = go (ltb (leg_at j) apart) (ltb (last_at j) apart) (ltb (key_at j) unlinked) refl refl refl
+      place = go (is_some (leg_at j)) (is_some (last_at j)) (ltb (key_at j) unlinked) refl refl refl
         where
-          read : (a b c : Bool) → ltb (leg_at j) apart ≡ a → ltb (last_at j) apart ≡ b → ltb (key_at j) unlinked ≡ c
-              → (cells j ≡ pick a (pick b (pick c (pair_at j ∷ []) []) []) []) × (run_at j ≡ pick (a && (b && c)) (cost_of_key (key_at j) + last_at j) unlinked)
+          read : (a b c : Bool) → is_some (leg_at j) ≡ a → is_some (last_at j) ≡ b → ltb (key_at j) unlinked ≡ c
+              → (cells j ≡ pick a (pick b (pick c (pair_at j ∷ []) []) []) []) × (run_at j ≡ pick (a && (b && c)) (cost_of_key (key_at j) + unwrap_or (last_at j) 0) unlinked)
           read a b c e f g = (cell_is j l ∙ rw (e, f, g), rw (e, f, g))
 
-          go : (a b c : Bool) → ltb (leg_at j) apart ≡ a → ltb (last_at j) apart ≡ b → ltb (key_at j) unlinked ≡ c → Holds run_of unlinked (run_at j) (cells j)
+          go : (a b c : Bool) → is_some (leg_at j) ≡ a → is_some (last_at j) ≡ b → ltb (key_at j) unlinked ≡ c → Holds run_of unlinked (run_at j) (cells j)
           go true true true e f g =
-              let near : last_at j < apart = ltb-true (last_at j) apart f in
+              let last : Some (unwrap_or (last_at j) 0) ≡ last_at j = some_of (last_at j) f in
               let below : key_at j < unlinked = ltb-true (key_at j) unlinked g in
               let r = read true true true e f g in
-              holds (pair_at j) r.0 (r.1 ∙ ap (λ (n : ℕ). cost_of_key (key_at j) + n) (sym (last_moves_lem h fits goal (j % sector_portals) (omega arith) near))) (omega (arith, r.1))
+              holds (pair_at j) r.0 (r.1 ∙ ap (λ (n : ℕ). cost_of_key (key_at j) + n) (sym (last_moves_lem h fits goal (j % sector_portals) (omega arith) last))) (omega (arith, r.1, near_low h fits goal (j % sector_portals) (omega arith) last))
           go false b c e f g = let r = read false b c e f g in empty r.0 (omega (arith, r.1))
           go true false c e f g = let r = read true false c e f g in empty r.0 (omega (arith, r.1))
           go true true false e f g = let r = read true true false e f g in empty r.0 (omega (arith, r.1))

@@ -1,10 +1,9 @@
 -- The first pair of the least run in two choices: the first start of least cost to the goal over any end, then the first end of least run from it.
-use Rattle.std.specs.Prelude.{ℕ, ◌+◌, ◌*◌, ◌/◌, ◌%◌, ◌≤◌, ◌<◌, ◌≡◌, refl, ◌⊎◌, List, get_or}
+use Rattle.std.specs.Prelude.{Option, Some, None, is_some, IsSome, unwrap_or, ℕ, ◌+◌, ◌*◌, ◌/◌, ◌%◌, ◌≤◌, ◌<◌, ◌≡◌, refl, ◌⊎◌, List, get_or}
 use Rattle.std.proofs.Common.{arith, ap, ◌∙◌, inl, inr, lt-ltb}
 use Rattle.std.proofs.Math.Decide.{ℕ_discrete}
 use Rattle.laws.specs.Graph.{Graph, Sound, BothWays, below_or}
 use Rattle.laws.specs.FirstLeast.{FirstLeast, Foremost, foremost_none, foremost_some, none_foremost, foremost_is}
-use Rattle.model.specs.Moves.{apart}
 use Rattle.model.specs.LeastPath.{unlinked, keys_to}
 use Rattle.model.specs.Portals.{sector_portals}
 use Rattle.search.specs.Keys.{keys_back}
@@ -12,23 +11,29 @@ use Rattle.choice.specs.Ends.{Nearest}
 use Rattle.choice.specs.Choosing.{run_for, some_run, joins, sector_pairs, pair_run}
 
 -- the runs of twenty places: keys from number p on, legs and last moves by place
-abbrev pub place_run : List ℕ → ℕ → List ℕ → List ℕ → ℕ → ℕ
-place_run keys p legs lasts c = run_for (get_or keys (p + c) 0) (get_or legs c 0) (get_or lasts c 0)
+abbrev pub place_run : List ℕ → ℕ → List (Option ℕ) → List (Option ℕ) → ℕ → ℕ
+place_run keys p legs lasts c = run_for (get_or keys (p + c) 0) (get_or legs c None) (get_or lasts c None)
 
 -- a run does not count the leg
-same_leg : (key leg other last : ℕ) → leg < apart → other < apart → run_for key leg last ≡ run_for key other last
+same_leg : (key : ℕ) (leg other last : Option ℕ) → IsSome leg → IsSome other → run_for key leg last ≡ run_for key other last
 unfolding run_for
-same_leg key leg other last l k = rw (lt-ltb leg apart l, lt-ltb other apart k)
+same_leg key leg other last l k = rw (l, k)
 
 -- ---- the two choices
 module _ {g : Graph} (sound : Sound g) (back : ∥ BothWays g ∥₁) (p q : ℕ) (in_p : p + sector_portals ≤ g.nodes) (in_q : q + sector_portals ≤ g.nodes)
-    (legs lasts zeros : List ℕ) (zero_at : (c : ℕ) → c < sector_portals → get_or zeros c 0 ≡ 0) where
+    (legs lasts zeros : List (Option ℕ)) (zero_at : (c : ℕ) → c < sector_portals → get_or zeros c None ≡ Some 0) where
+  is_zero : (c : ℕ) → c < sector_portals → IsSome (get_or zeros c None)
+  is_zero c l = ap is_some (zero_at c l)
+
+  zero : (c : ℕ) → c < sector_portals → unwrap_or (get_or zeros c None) 0 ≡ 0
+  zero c l = ap (λ (o : Option ℕ). unwrap_or o 0) (zero_at c l)
+
   -- the key and the run from the start at place c to the end at place d
   abbrev key_for : ℕ → ℕ → ℕ
   key_for c d = get_or (keys_to g (q + d)) (p + c) 0
 
   abbrev run_to : ℕ → ℕ → ℕ
-  run_to c d = run_for (key_for c d) (get_or legs c 0) (get_or lasts d 0)
+  run_to c d = run_for (key_for c d) (get_or legs c None) (get_or lasts d None)
 
   abbrev runs : ℕ → ℕ
   runs = pair_run g legs lasts p q
@@ -40,17 +45,17 @@ module _ {g : Graph} (sound : Sound g) (back : ∥ BothWays g ∥₁) (p q : ℕ
     -- a start's cost is no more than its run to any end, and one move more
     start_most : (c d : ℕ) → c < sector_portals → d < sector_portals → run_to c d < unlinked → (start_cost c < unlinked) × (start_cost c ≤ run_to c d + 1)
     start_most c d lc ld low =
-        let j = joins (key_for c d) (get_or legs c 0) (get_or lasts d 0) low in
+        let j = joins (key_for c d) (get_or legs c None) (get_or lasts d None) low in
         let found = nearest.found (p + c) d (omega arith) ld j.near_end j.linked in
-        let cost = some_run (get_or keys (p + c) 0) (get_or legs c 0) (get_or zeros c 0) j.near_start (omega (arith, zero_at c lc)) found.0 in
-        (omega (arith, cost, zero_at c lc, found.0), omega (arith, cost, zero_at c lc, found.1, j.run))
+        let cost = some_run (get_or keys (p + c) 0) (get_or legs c None) (get_or zeros c None) j.near_start (is_zero c lc) found.0 in
+        (omega (arith, cost, zero c lc, found.0), omega (arith, cost, zero c lc, found.1, j.run))
 
     -- and that of its run to some end
-    start_some : (c : ℕ) → c < sector_portals → start_cost c < unlinked → (get_or legs c 0 < apart) × ((d : ℕ) × (d < sector_portals) × (run_to c d < unlinked) × (run_to c d + 1 ≤ start_cost c))
+    start_some : (c : ℕ) → c < sector_portals → start_cost c < unlinked → (IsSome (get_or legs c None)) × ((d : ℕ) × (d < sector_portals) × (run_to c d < unlinked) × (run_to c d + 1 ≤ start_cost c))
     start_some c lc low =
-        let j = joins (get_or keys (p + c) 0) (get_or legs c 0) (get_or zeros c 0) low in
+        let j = joins (get_or keys (p + c) 0) (get_or legs c None) (get_or zeros c None) low in
         let o = nearest.over (p + c) (omega arith) j.linked in
-        let run = some_run (key_for c o.0) (get_or legs c 0) (get_or lasts o.0 0) j.near_start o.2 (omega (arith, o.3, j.linked)) in
+        let run = some_run (key_for c o.0) (get_or legs c None) (get_or lasts o.0 None) j.near_start o.2 (omega (arith, o.3, j.linked)) in
         (j.near_start, (o.0, o.1, omega (arith, run, o.2, o.3, j.linked), omega (arith, run, o.3, j.run)))
 
     -- no start: no pair
@@ -74,7 +79,7 @@ module _ {g : Graph} (sound : Sound g) (back : ∥ BothWays g ∥₁) (p q : ℕ
         ends_are : (d : ℕ) → d < sector_portals → place_run tos q zeros lasts d ≡ run_to c d
         ends_are d l =
             let key : get_or tos (q + d) 0 ≡ key_for c d = ap (λ (k : List ℕ). get_or k (q + d) 0) to_start ∙ keys_back sound back (omega arith) (omega arith) in
-            rw key (same_leg (key_for c d) (get_or zeros d 0) (get_or legs c 0) (get_or lasts d 0) (omega (arith, zero_at d l)) (start_some c some starts_low).0)
+            rw key (same_leg (key_for c d) (get_or zeros d None) (get_or legs c None) (get_or lasts d None) (is_zero d l) (start_some c some starts_low).0)
 
         -- some end is joined to it
         pub some_end : {d : ℕ} → Foremost (place_run tos q zeros lasts) unlinked sector_portals d → d < sector_portals

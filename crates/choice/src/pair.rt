@@ -14,14 +14,15 @@ use crate::places::Pair;
 use graph::edges::KEY_STEP;
 use graph::portals::SECTOR_PORTALS;
 use graph::table::Edges;
-use moves::spread::APART;
 use search::keys::keys_to;
 
 // The run of a pair by the key of its path, its leg and the moves from its end to the goal, if it is a pair.
-fn run_of(key: u32, leg: u8, last: u8) -> Option<u32>
+fn run_of(key: u32, leg: Option<u8>, last: Option<u8>) -> Option<u32>
     ensures { unwrap_or result unlinked ≡ run_for key leg last }
 {
-    if leg == APART || last == APART || key == u32::MAX {
+    leg?;
+    let last = last?;
+    if key == u32::MAX {
         return None;
     }
     Some(key / KEY_STEP + u32::from(last))
@@ -31,8 +32,8 @@ fn run_of(key: u32, leg: u8, last: u8) -> Option<u32>
 fn first_place(
     keys: &[u32],
     p: usize,
-    legs: &[u8; SECTOR_PORTALS],
-    lasts: &[u8; SECTOR_PORTALS],
+    legs: &[Option<u8>; SECTOR_PORTALS],
+    lasts: &[Option<u8>; SECTOR_PORTALS],
 ) -> Option<usize>
     requires { (p + sector_portals ≤ length keys.now) × (length keys.now ≤ hall_portals) }
     ensures first { Foremost (place_run keys.now p legs.now lasts.now) unlinked sector_portals (unwrap_or result sector_portals) }
@@ -57,15 +58,15 @@ pub fn choose_pair(
     edges: Edges,
     p: usize,
     q: usize,
-    legs: &[u8; SECTOR_PORTALS],
-    lasts: &[u8; SECTOR_PORTALS],
+    legs: &[Option<u8>; SECTOR_PORTALS],
+    lasts: &[Option<u8>; SECTOR_PORTALS],
     keys: &mut [u32],
 ) -> Option<Pair>
-    requires lists { (length keys.old ≡ portal_count edges.measures) }
+    requires lists { length keys.old ≡ portal_count edges.measures }
     requires inside { (p + sector_portals ≤ portal_count edges.measures) × (q + sector_portals ≤ portal_count edges.measures) }
     ensures { let first = Foremost (pair_run (graph_of edges.entry) legs.now lasts.now p q) unlinked sector_pairs in MatchOption result (first sector_pairs) (λ pair. first (pair.start * sector_portals + pair.end)) }
 {
-    let zeros = [0u8; SECTOR_PORTALS];
+    let zeros = [Some(0); SECTOR_PORTALS];
     keys_to_goal(edges, q, lasts, keys);
     let start = first_place(keys, p, legs, &zeros)?;
     keys_to(edges, p + start, keys);

@@ -4,7 +4,7 @@ use Rattle.std.proofs.Common.{arith, sym, ap, ◌∙◌, inl, inr, ext_get_or}
 use Rattle.std.proofs.Math.Path.{refl}
 use Rattle.std.proofs.Math.Bool.{true, false}
 use Rattle.std.proofs.Math.Dec.{ltb}
-use borrow.Author.Tests.{lt-ltb, le-ltb, eq-eqb, ne_eqb}
+use borrow.Author.Tests.{ltb-true, lt-ltb, le-ltb, eq-eqb, ne_eqb}
 use Rattle.laws.specs.Fold.{pick}
 use Rattle.laws.specs.Search.{both}
 use Rattle.laws.specs.Graph.{below_or}
@@ -152,6 +152,12 @@ module _ (h : Hall) (fits : Fits h) (x c : ℕ) (low : c < sector_portals) where
   leg_moves {n} e =
       let t = there (near_portal (ap is_some (sym e))) in
       sym (some_if (ltb (moves_to h.scaled x (mid_cell h number)) apart) (moves_to h.scaled x (mid_cell h number)) (e ∙ t.moved)).1
+
+  pub near_low : {n : ℕ} → Some n ≡ get_or (portal_moves h x) c None → n < apart
+  near_low {n} e =
+      let t = there (near_portal (ap is_some (sym e))) in
+      let some = some_if (ltb (moves_to h.scaled x (mid_cell h number)) apart) (moves_to h.scaled x (mid_cell h number)) (e ∙ t.moved) in
+      omega (arith, some.1, ltb-true (moves_to h.scaled x (mid_cell h number)) apart some.0)
 
   pub last_moves_lem : {n : ℕ} → Some n ≡ get_or (portal_moves h x) c None → moves_to h.scaled (mid_cell h number) x ≡ n
   last_moves_lem {n} e =

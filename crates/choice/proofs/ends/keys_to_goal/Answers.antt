@@ -23,8 +23,8 @@ returns c =
     let zeros = take-replicate {X = ℕ} (length c.args.keys.now) hall_portals 0 (omega (arith, edges.few)) in
     let waits : length c.offer_ends.new.wait ≡ portal_count edges.measures = c.offer_ends.auto.wait ∙ ap length zeros ∙ length-replicate {A = ℕ} (length c.args.keys.now) 0 ∙ c.requires.0 in
     let begun = starts_none g sector_portals to cost sound (λ j l. omega arith) unlinked (omega arith) c.requires.0 c.requires.0 (c.fill.ensures.after (λ y e. e)) zeros in
-    let waiting = starts_all g sector_portals to cost sound (λ j l. omega arith) c.offer_ends.new.keys c.offer_ends.new.wait (c.offer_ends.ensures g sound (c.fill.ensures.len ∙ c.requires.0) begun) in
+    let waiting = starts_all g sector_portals to cost sound (λ j l. omega arith) c.offer_ends.new.keys c.offer_ends.new.wait (c.offer_ends.ensures.begun g sound (c.fill.ensures.len ∙ c.requires.0) begun) in
     let kept = c.settle.ensures.kept (ends_graph g c.args.q c.args.lasts.now) (0 ∷ []) (starts_extends g sector_portals to cost sound (λ j l. omega arith)) g.nodes unlinked waiting in
     let settled =
     starts_over g sector_portals to cost sound (λ j l. omega arith) c.settle.new.keys c.settle.new.wait (c.settle.auto.wait ∙ waits) kept (λ v l. c.settle.ensures.over v (omega (arith, numbers))) in
-    ends_nearest c.args.q c.args.lasts.now c.settle.new.keys sound edges.both_ways (omega (arith, edges.few)) edges.light c.requires.1 (c.settle.auto.keys ∙ numbers) settled
+    ends_nearest c.args.q c.args.lasts.now c.settle.new.keys c.offer_ends.ensures.light sound edges.both_ways (omega (arith, edges.few)) edges.light c.requires.1 (c.settle.auto.keys ∙ numbers) settled

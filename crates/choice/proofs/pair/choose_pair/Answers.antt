@@ -4,15 +4,16 @@ use mathlib.Core.Path.{◌≡◌}
 use Prim.Native.Nat.{ℕ, ◌<◌}
 use mathlib.Core.List.{List}
 use lib.ListN.{get_or, replicate, get_or-replicate}
+use Rattle.std.specs.Prelude.{Option, Some, None}
 use Rattle.model.specs.Portals.{sector_portals}
 use Rattle.choice.specs.FirstPair.{no_start, some_end, first_pair}
 use Rattle.choice.proofs.pair.choose_pair.Goals as goal
 
-abbrev zeros : List ℕ
-zeros = replicate sector_portals 0
+abbrev zeros : List (Option ℕ)
+zeros = replicate sector_portals (Some 0)
 
-zero_at : (c : ℕ) → c < sector_portals → get_or zeros c 0 ≡ 0
-zero_at c l = get_or-replicate {A = ℕ} sector_portals c 0 0 l
+zero_at : (c : ℕ) → c < sector_portals → get_or zeros c None ≡ Some 0
+zero_at c l = get_or-replicate {A = Option ℕ} sector_portals c (Some 0) None l
 
 pub returns-in_err-start : goal.returns-in_err-start
 returns-in_err-start c =
