@@ -56,6 +56,10 @@ pub some_of : (o : Option ℕ) → IsSome o → Some (unwrap_or o 0) ≡ o
 some_of (Some n) e = refl
 some_of None e = cc
 
+pub never_none : (o : Option ℕ) → IsSome o → o ≡ None → ⊥
+never_none (Some n) s e = cc
+never_none None s e = cc
+
 -- a run below `unlinked`
 pub record Joins (key : ℕ) (leg last : Option ℕ) : Type 0 where
   pub near_start : IsSome leg

@@ -1,5 +1,5 @@
 -- The first pair of the least run in two choices: the first start of least cost to the goal over any end, then the first end of least run from it.
-use Rattle.std.specs.Prelude.{Option, Some, None, is_some, IsSome, unwrap_or, ℕ, ◌+◌, ◌*◌, ◌/◌, ◌%◌, ◌≤◌, ◌<◌, ◌≡◌, refl, ◌⊎◌, List, get_or}
+use Rattle.std.specs.Prelude.{Option, Some, None, IsSome, unwrap_or, ℕ, ◌+◌, ◌*◌, ◌/◌, ◌%◌, ◌≤◌, ◌<◌, ◌≡◌, refl, ◌⊎◌, List, get_or}
 use Rattle.std.proofs.Common.{arith, ap, ◌∙◌, inl, inr, lt-ltb}
 use Rattle.std.proofs.Math.Decide.{ℕ_discrete}
 use Rattle.laws.specs.Graph.{Graph, Sound, BothWays, below_or}
@@ -10,9 +10,13 @@ use Rattle.search.specs.Keys.{keys_back}
 use Rattle.choice.specs.Ends.{Nearest}
 use Rattle.choice.specs.Choosing.{run_for, some_run, joins, sector_pairs, pair_run}
 
--- the runs of twenty places: keys from number p on, legs and last moves by place
-abbrev pub place_run : List ℕ → ℕ → List (Option ℕ) → List (Option ℕ) → ℕ → ℕ
-place_run keys p legs lasts c = run_for (get_or keys (p + c) 0) (get_or legs c None) (get_or lasts c None)
+-- the cost of the start at place c, by keys from number p on: they count the moves from its end to the goal
+abbrev pub start_run : List ℕ → ℕ → List (Option ℕ) → ℕ → ℕ
+start_run keys p legs c = run_for (get_or keys (p + c) 0) (get_or legs c None) (Some 0)
+
+-- the run to the end at place d, by keys from number q on
+abbrev pub end_run : List ℕ → ℕ → List (Option ℕ) → ℕ → ℕ
+end_run keys q lasts d = run_for (get_or keys (q + d) 0) (Some 0) (get_or lasts d None)
 
 -- a run does not count the leg
 same_leg : (key : ℕ) (leg other last : Option ℕ) → IsSome leg → IsSome other → run_for key leg last ≡ run_for key other last
@@ -21,13 +25,7 @@ same_leg key leg other last l k = rw (l, k)
 
 -- ---- the two choices
 module _ {g : Graph} (sound : Sound g) (back : ∥ BothWays g ∥₁) (p q : ℕ) (in_p : p + sector_portals ≤ g.nodes) (in_q : q + sector_portals ≤ g.nodes)
-    (legs lasts zeros : List (Option ℕ)) (zero_at : (c : ℕ) → c < sector_portals → get_or zeros c None ≡ Some 0) where
-  is_zero : (c : ℕ) → c < sector_portals → IsSome (get_or zeros c None)
-  is_zero c l = ap is_some (zero_at c l)
-
-  zero : (c : ℕ) → c < sector_portals → unwrap_or (get_or zeros c None) 0 ≡ 0
-  zero c l = ap (λ (o : Option ℕ). unwrap_or o 0) (zero_at c l)
-
+    (legs lasts : List (Option ℕ)) where
   -- the key and the run from the start at place c to the end at place d
   abbrev key_for : ℕ → ℕ → ℕ
   key_for c d = get_or (keys_to g (q + d)) (p + c) 0
@@ -40,20 +38,20 @@ module _ {g : Graph} (sound : Sound g) (back : ∥ BothWays g ∥₁) (p q : ℕ
 
   module _ (keys : List ℕ) (nearest : Nearest g q lasts keys) where
     abbrev start_cost : ℕ → ℕ
-    start_cost c = place_run keys p legs zeros c
+    start_cost c = start_run keys p legs c
 
     -- a start's cost is no more than its run to any end, and one move more
     start_most : (c d : ℕ) → c < sector_portals → d < sector_portals → run_to c d < unlinked → (start_cost c < unlinked) × (start_cost c ≤ run_to c d + 1)
     start_most c d lc ld low =
         let j = joins (key_for c d) (get_or legs c None) (get_or lasts d None) low in
         let found = nearest.found (p + c) d (omega arith) ld j.near_end j.linked in
-        let cost = some_run (get_or keys (p + c) 0) (get_or legs c None) (get_or zeros c None) j.near_start (is_zero c lc) found.0 in
-        (omega (arith, cost, zero c lc, found.0), omega (arith, cost, zero c lc, found.1, j.run))
+        let cost = some_run (get_or keys (p + c) 0) (get_or legs c None) (Some 0) j.near_start refl found.0 in
+        (omega (arith, cost, found.0), omega (arith, cost, found.1, j.run))
 
     -- and that of its run to some end
     start_some : (c : ℕ) → c < sector_portals → start_cost c < unlinked → (IsSome (get_or legs c None)) × ((d : ℕ) × (d < sector_portals) × (run_to c d < unlinked) × (run_to c d + 1 ≤ start_cost c))
     start_some c lc low =
-        let j = joins (get_or keys (p + c) 0) (get_or legs c None) (get_or zeros c None) low in
+        let j = joins (get_or keys (p + c) 0) (get_or legs c None) (Some 0) low in
         let o = nearest.over (p + c) (omega arith) j.linked in
         let run = some_run (key_for c o.0) (get_or legs c None) (get_or lasts o.0 None) j.near_start o.2 (omega (arith, o.3, j.linked)) in
         (j.near_start, (o.0, o.1, omega (arith, run, o.2, o.3, j.linked), omega (arith, run, o.3, j.run)))
@@ -76,21 +74,29 @@ module _ {g : Graph} (sound : Sound g) (back : ∥ BothWays g ∥₁) (p q : ℕ
 
       module _ (tos : List ℕ) (to_start : tos ≡ keys_to g (p + c)) where
         -- the runs from it
-        ends_are : (d : ℕ) → d < sector_portals → place_run tos q zeros lasts d ≡ run_to c d
+        ends_are : (d : ℕ) → d < sector_portals → end_run tos q lasts d ≡ run_to c d
         ends_are d l =
             let key : get_or tos (q + d) 0 ≡ key_for c d = ap (λ (k : List ℕ). get_or k (q + d) 0) to_start ∙ keys_back sound back (omega arith) (omega arith) in
-            rw key (same_leg (key_for c d) (get_or zeros d None) (get_or legs c None) (get_or lasts d None) (is_zero d l) (start_some c some starts_low).0)
+            rw key (same_leg (key_for c d) (Some 0) (get_or legs c None) (get_or lasts d None) refl (start_some c some starts_low).0)
+
+        -- its leg
+        pub start_leg : IsSome (get_or legs c None)
+        start_leg = (start_some c some starts_low).0
 
         -- some end is joined to it
-        pub some_end : {d : ℕ} → Foremost (place_run tos q zeros lasts) unlinked sector_portals d → d < sector_portals
+        pub some_end : {d : ℕ} → Foremost (end_run tos q lasts) unlinked sector_portals d → d < sector_portals
         some_end {d} end = go (below_or d sector_portals)
           where
             go : (d < sector_portals) ⊎ (sector_portals ≤ d) → d < sector_portals
             go (inl k) = k
             go (inr past) = let x = (start_some c some starts_low).1 in absurd (omega (arith, x.2, none_foremost end past x.0 x.1, ends_are x.0 x.1))
 
+        -- its moves to the goal
+        pub end_last : {d : ℕ} → Foremost (end_run tos q lasts) unlinked sector_portals d → IsSome (get_or lasts d None)
+        end_last {d} end = (joins (get_or tos (q + d) 0) (Some 0) (get_or lasts d None) (foremost_is end (some_end end)).0).near_end
+
         -- THE PAIR
-        pub first_pair : {d : ℕ} → Foremost (place_run tos q zeros lasts) unlinked sector_portals d → Foremost runs unlinked sector_pairs (c * sector_portals + d)
+        pub first_pair : {d : ℕ} → Foremost (end_run tos q lasts) unlinked sector_portals d → Foremost runs unlinked sector_pairs (c * sector_portals + d)
         first_pair {d} end = foremost_some (omega (arith, chosen, ends_are d k, (foremost_is end k).0)) (record {
           low = omega (arith, k);
           before = λ j l. omega (arith, chosen, earlier j (omega (arith, k)) l (below_or (runs j) unlinked));
@@ -100,7 +106,7 @@ module _ {g : Graph} (sound : Sound g) (back : ∥ BothWays g ∥₁) (p q : ℕ
             k : d < sector_portals
             k = some_end end
 
-            ends_first : FirstLeast (place_run tos q zeros lasts) sector_portals d
+            ends_first : FirstLeast (end_run tos q lasts) sector_portals d
             ends_first = (foremost_is end k).1
 
             chosen : runs (c * sector_portals + d) ≡ run_to c d
