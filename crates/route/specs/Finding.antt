@@ -79,11 +79,10 @@ module _ (h : Hall) where
   pair_route goal p e leg last = route (steps_of h goal true (pair_path p e)) leg (cost_of_key (get_or (keys_to (portal_graph h) e) p 0) + last)
 
   module _ (fits : Fits h) (source goal : ℕ) {j : ℕ} (c : Chosen h source goal j) where
-    pub pair_found : through_portals h (portal_graph h) source goal ≡ pair_route goal (place_portal (sector_of source) (j / sector_portals)) (place_portal (sector_of goal) (j % sector_portals))
-        (leg_at h source goal j) (last_at h source goal j)
+    pub pair_found : {leg last : ℕ} → Some leg ≡ leg_at h source goal j → Some last ≡ last_at h source goal j
+        → through_portals h (portal_graph h) source goal ≡ pair_route goal (place_portal (sector_of source) (j / sector_portals)) (place_portal (sector_of goal) (j % sector_portals)) leg last
     unfolding through_portals through_pair end_of run_of
-    pair_found =
-        rw (c.wins, leg_moves h fits source (j / sector_portals) (omega (arith, c.low)) c.joined_by.near_start, last_moves_lem h fits goal (j % sector_portals) (omega arith) c.joined_by.near_end)
+    pair_found e f = rw (c.wins, leg_moves h fits source (j / sector_portals) (omega (arith, c.low)) e, last_moves_lem h fits goal (j % sector_portals) (omega arith) f)
 
     pub pair_paired : sector_of goal < sectors h.measures → Paired (place_portal (sector_of source) (j / sector_portals)) (place_portal (sector_of goal) (j % sector_portals))
     pair_paired l = record { start = near_portal h fits source (j / sector_portals) (omega (arith, c.low)) c.joined_by.near_start; end = omega arith; linked = c.joined_by.linked }

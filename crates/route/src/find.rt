@@ -1,7 +1,7 @@
 // The search for a route: document 01, "A route". It answers what was found, and writes the steps where the list has room for all of them; the call refuses where it has not.
 ghost use Rattle.std.specs.Prelude.{◌≡◌, ◌*◌, ◌/◌, ◌≤◌, ◌<◌, length};
-ghost use Rattle.model.specs.Sectors.{sectors, cells};
-ghost use Rattle.model.specs.Portals.{portal_count, arc_count, portal_graph};
+ghost use Rattle.model.specs.Sectors.{sectors, cells, sector_of};
+ghost use Rattle.model.specs.Portals.{sector_portals, place_portal, portal_count, arc_count, portal_graph};
 ghost use Rattle.model.specs.Route.{through_portals, route_of};
 ghost use Rattle.model.specs.Calls.{outcome};
 ghost use Rattle.store.specs.Stored.{stored};
@@ -9,6 +9,7 @@ ghost use Rattle.path.specs.Following.{Linked};
 ghost use Rattle.route.specs.Finding.{found_into, last_route, Paired, pair_route};
 
 use choice::pair::choose_pair;
+use choice::places::Pair;
 use fields::sectors::{SECTOR_CELLS, sectors};
 use graph::edges::KEY_STEP;
 use graph::near::{moves_to, portal_moves};
@@ -38,30 +39,30 @@ fn one_step(m: Measures, goal: usize, moves: u8, list: &mut [u8]) -> Option<Rout
     found
 }
 
-// The route from portal p to portal e and from there to the goal, with its leg and its last moves.
+// The route over a pair: from its start to its end, and from there to the goal.
 fn through_pair(
     hall: &Opened<'_>,
     edges: Edges,
-    p: usize,
-    e: usize,
+    source: usize,
     goal: usize,
-    leg: u8,
-    last: u8,
+    pair: Pair,
     keys: &mut [u32],
     list: &mut [u8],
 ) -> Option<Route>
-    requires { Linked hall.now edges (length keys.old) × Paired (stored hall.now) p e }
-    ensures answer { result ≡ outcome (pair_route (stored hall.now) goal p e leg last) }
-    ensures steps { list.new ≡ found_into (pair_route (stored hall.now) goal p e leg last) list.old }
+    requires { Linked hall.now edges (length keys.old) × Paired (stored hall.now) (place_portal (sector_of source) pair.start) (place_portal (sector_of goal) pair.end) }
+    ensures answer { result ≡ outcome (pair_route (stored hall.now) goal (place_portal (sector_of source) pair.start) (place_portal (sector_of goal) pair.end) pair.leg pair.last) }
+    ensures steps { list.new ≡ found_into (pair_route (stored hall.now) goal (place_portal (sector_of source) pair.start) (place_portal (sector_of goal) pair.end) pair.leg pair.last) list.old }
 {
+    let p = source / SECTOR_CELLS * SECTOR_PORTALS + pair.start;
+    let e = goal / SECTOR_CELLS * SECTOR_PORTALS + pair.end;
     keys_to(edges, e, keys);
     let mut nodes = [0u16; HALL_PORTALS];
     let n = least_path(hall, edges, keys, p, &mut nodes);
     let steps = step_count(n);
     let found = Some(Route {
         steps: steps as u32,
-        leg: u32::from(leg),
-        run: keys[p] / KEY_STEP + u32::from(last),
+        leg: u32::from(pair.leg),
+        run: keys[p] / KEY_STEP + u32::from(pair.last),
     });
     if list.len() / 6 < steps {
         return found;
@@ -88,20 +89,8 @@ fn through_lists(
     let edges = Edges::of_store(hall, table);
     let p = source / SECTOR_CELLS * SECTOR_PORTALS;
     let q = goal / SECTOR_CELLS * SECTOR_PORTALS;
-    let Some(pair) = choose_pair(edges, p, q, &legs, &lasts, keys) else {
-        return None;
-    };
-    through_pair(
-        hall,
-        edges,
-        p + pair.start,
-        q + pair.end,
-        goal,
-        legs[pair.start],
-        lasts[pair.end],
-        keys,
-        list,
-    )
+    let pair = choose_pair(edges, p, q, &legs, &lasts, keys)?;
+    through_pair(hall, edges, source, goal, pair, keys, list)
 }
 
 // The same in lists of its own.

@@ -4,6 +4,7 @@ use Prim.Native.Nat.{ℕ, ◌+◌, ◌*◌, ◌/◌, ◌%◌, ◌<◌}
 use mathlib.Core.Path.{◌≡◌, sym, ap, ◌∙◌, refl}
 use mathlib.Core.List.{List}
 use lib.ListN.{length, get_or}
+use Rattle.std.specs.Prelude.{Option, Some, None}
 use Rattle.laws.specs.FirstLeast.{Foremost}
 use Rattle.model.specs.declared.Measures.{Measures}
 use Rattle.model.specs.Sectors.{sectors, sector_of}
@@ -25,7 +26,7 @@ use Rattle.route.proofs.find.through_lists.Goals as goal
 use Rattle.route.proofs.find.through_lists.Goals.{After-of_store-edges}
 
 -- ---- what the choice by the table and the near portals as they were read is in the hall
-module _ {hall : Opened} {edges : Edges} {keys : ℕ} (k : Linked hall edges keys) (source goal : ℕ) {legs lasts : List ℕ}
+module _ {hall : Opened} {edges : Edges} {keys : ℕ} (k : Linked hall edges keys) (source goal : ℕ) {legs lasts : List (Option ℕ)}
     (legs_are : legs ≡ portal_moves (stored hall) source) (lasts_are : lasts ≡ portal_moves (stored hall) goal) where
   abbrev First : ℕ → Type 0
   First = Foremost (pair_run (graph_of edges) legs lasts (sector_of source * sector_portals) (sector_of goal * sector_portals)) unlinked sector_pairs
@@ -33,7 +34,7 @@ module _ {hall : Opened} {edges : Edges} {keys : ℕ} (k : Linked hall edges key
   foremost : {r : ℕ} → First r → Foremost (run_at (stored hall) source goal) unlinked sector_pairs r
   foremost f = rw (graph_is k, legs_are, lasts_are) at f
 
-  module _ (pair : Pair) (f : First (pair.start * sector_portals + pair.end)) where
+  module _ (pair : Pair) (f : First (pair.start * sector_portals + pair.end)) (leg : get_or legs pair.start None ≡ Some pair.leg) (last : get_or lasts pair.end None ≡ Some pair.last) where
     abbrev number : ℕ
     number = pair.start * sector_portals + pair.end
 
@@ -48,8 +49,8 @@ module _ {hall : Opened} {edges : Edges} {keys : ℕ} (k : Linked hall edges key
 
     -- the route over it, with leg and last moves as they were read
     found_is : through_portals (stored hall) (portal_graph (stored hall)) source goal
-        ≡ pair_route (stored hall) goal (place_portal (sector_of source) pair.start) (place_portal (sector_of goal) pair.end) (get_or legs pair.start 0) (get_or lasts pair.end 0)
-    found_is = rw (legs_are, lasts_are) (rw (start_is, end_is) at (pair_found (stored hall) (fits_of hall.opened) source goal chosen))
+        ≡ pair_route (stored hall) goal (place_portal (sector_of source) pair.start) (place_portal (sector_of goal) pair.end) pair.leg pair.last
+    found_is = rw (start_is, end_is) at (pair_found (stored hall) (fits_of hall.opened) source goal chosen {leg = pair.leg} {last = pair.last} (rw (start_is, ← legs_are) (sym leg)) (rw (end_is, ← lasts_are) (sym last)))
 
     paired : sector_of goal < sectors hall.store.measures → Paired (stored hall) (place_portal (sector_of source) pair.start) (place_portal (sector_of goal) pair.end)
     paired l = rw (start_is, end_is) at (pair_paired (stored hall) (fits_of hall.opened) source goal chosen (rw (measures_are hall.opened) l))
@@ -70,21 +71,21 @@ choose_pair-requires c =
     let same = counted (goal.at.choose_pair-requires c).After-of_store-edges in
     record { lists = c.requires.3 ∙ sym same; inside = (omega (arith, same, c.requires.0), omega (arith, same, c.requires.1)) }
 
-pub returns-in_default : goal.returns-in_default
-returns-in_default c =
-    let link = linked (goal.at.returns-in_default c).After-of_store-edges refl in
-    let none = foremost link c.args.source c.args.goal c.portal_moves-legs.ensures c.portal_moves-lasts.ensures c.in_default.ensures in
+pub returns-in_err-pair : goal.returns-in_err-pair
+returns-in_err-pair c =
+    let link = linked (goal.at.returns-in_err-pair c).After-of_store-edges refl in
+    let none = foremost link c.args.source c.args.goal c.portal_moves-legs.ensures c.portal_moves-lasts.ensures c.in_err-pair.ensures.pair in
     let both = none_found _ _ _ _ (chosen_none (stored c.args.hall.now) c.args.source c.args.goal (fits_of c.args.hall.now.opened) none (omega arith)) in
-    record { answer = both.0; steps = both.1 }
+    rw c.from_residual.ensures (record { answer = both.0; steps = both.1 })
 
 pub through_pair-requires : goal.through_pair-requires
 through_pair-requires c =
     let link = linked (goal.at.through_pair-requires c).After-of_store-edges c.choose_pair.auto.keys in
-    (link, paired link c.args.source c.args.goal c.portal_moves-legs.ensures c.portal_moves-lasts.ensures c.in-Some.pair c.in-Some.ensures (omega (arith, c.requires.1)))
+    (link, paired link c.args.source c.args.goal c.portal_moves-legs.ensures c.portal_moves-lasts.ensures c.in_ok-pair.pair c.in_ok-pair.ensures.pair c.in_ok-pair.ensures.moves.0 c.in_ok-pair.ensures.moves.1 (omega (arith, c.requires.1)))
 
 pub returns : goal.returns
 returns c =
     let call = c.through_pair in
     let link = linked (goal.at.returns c).After-of_store-edges refl in
-    let f = found_is link c.args.source c.args.goal c.portal_moves-legs.ensures c.portal_moves-lasts.ensures c.in-Some.pair c.in-Some.ensures in
+    let f = found_is link c.args.source c.args.goal c.portal_moves-legs.ensures c.portal_moves-lasts.ensures c.in_ok-pair.pair c.in_ok-pair.ensures.pair c.in_ok-pair.ensures.moves.0 c.in_ok-pair.ensures.moves.1 in
     record { answer = call.ensures.answer ∙ ap outcome (sym f); steps = call.ensures.steps ∙ ap (λ (x : Found). found_into x c.args.list.now) (sym f) }

@@ -1,11 +1,12 @@
 -- `through_pair` searches to the end portal, follows the least path and writes its steps.
 use native.Mathlib.Omega.{arith}
-use Prim.Native.Nat.{◌<◌, ◌≤◌}
+use Prim.Native.Nat.{ℕ, ◌+◌, ◌<◌, ◌≤◌}
 use mathlib.Core.Path.{◌≡◌, sym, ap, ◌∙◌}
 use lib.ListN.{length, take}
 use lib.Seq.{length-take-le}
 use Rattle.laws.specs.Graph.{Graph}
-use Rattle.model.specs.Portals.{hall_portals, portal_count, portal_graph}
+use Rattle.model.specs.Sectors.{sector_of}
+use Rattle.model.specs.Portals.{hall_portals, place_portal, portal_count, portal_graph}
 use Rattle.model.specs.LeastPath.{keys_to}
 use Rattle.model.specs.PortalCrossings.{Fits}
 use Rattle.store.specs.Stored.{stored}
@@ -15,18 +16,25 @@ use Rattle.route.specs.Finding.{taken_few, taken_path, pair_no_room, pair_writte
 use Rattle.route.proofs.find.through_pair.Goals as goal
 use Rattle.route.proofs.find.through_pair.Goals.{After-keys_to, After-least_path-n, Start}
 
-start_low : (s : Start) → s.args.p < portal_count s.args.edges.measures
-start_low s = portal_inside s.requires.0 s.args.p s.requires.1.start
+-- the pair's portals
+abbrev start : Start → ℕ
+start s = place_portal (sector_of s.args.source) s.args.pair.start
 
-end_low : (s : Start) → s.args.e < portal_count s.args.edges.measures
+abbrev end : Start → ℕ
+end s = place_portal (sector_of s.args.goal) s.args.pair.end
+
+start_low : (s : Start) → start s < portal_count s.args.edges.measures
+start_low s = portal_inside s.requires.0 (start s) s.requires.1.start
+
+end_low : (s : Start) → end s < portal_count s.args.edges.measures
 end_low s = omega (arith, s.requires.1.end, ap portal_count (s.requires.0.measured ∙ sym (measures_are s.args.hall.now.opened)))
 
 fits : (s : Start) → Fits (stored s.args.hall.now)
 fits s = fits_of s.args.hall.now.opened
 
 -- the keys are those to the end portal
-keys_are : (c : After-keys_to) → c.keys_to.new.keys ≡ keys_to (portal_graph (stored c.args.hall.now)) c.args.e
-keys_are c = c.keys_to.ensures ∙ ap (λ (g : Graph). keys_to g c.args.e) (graph_is c.requires.0)
+keys_are : (c : After-keys_to) → c.keys_to.new.keys ≡ keys_to (portal_graph (stored c.args.hall.now)) (place_portal (sector_of c.args.goal) c.args.pair.end)
+keys_are c = c.keys_to.ensures ∙ ap (λ (g : Graph). keys_to g (place_portal (sector_of c.args.goal) c.args.pair.end)) (graph_is c.requires.0)
 
 linked : (c : After-keys_to) → Linked c.args.hall.now c.args.edges (length c.keys_to.new.keys)
 linked c = record { measured = c.requires.0.measured; filled = c.requires.0.filled; numbers = c.keys_to.auto.keys ∙ c.requires.0.numbers }
@@ -34,7 +42,7 @@ linked c = record { measured = c.requires.0.measured; filled = c.requires.0.fill
 -- the path fits the list of portals
 few_portals : (l : After-least_path-n) → (l.least_path-n.result ≤ length l.least_path-n.new.nodes) × (length l.least_path-n.new.nodes ≡ hall_portals)
 few_portals l = let s = l in (
-  taken_few _ (fits_of s.args.hall.now.opened) s.requires.1 _ _ _ (l.keys_to.ensures ∙ ap (λ (g : Graph). keys_to g l.args.e) (graph_is l.requires.0)) l.least_path-n.ensures.count l.least_path-n.ensures.portals l.least_path-n.auto.nodes,
+  taken_few _ (fits_of s.args.hall.now.opened) s.requires.1 _ _ _ (l.keys_to.ensures ∙ ap (λ (g : Graph). keys_to g (place_portal (sector_of l.args.goal) l.args.pair.end)) (graph_is l.requires.0)) l.least_path-n.ensures.count l.least_path-n.ensures.portals l.least_path-n.auto.nodes,
   l.least_path-n.auto.nodes,
 )
 
@@ -46,9 +54,9 @@ keys_to-requires c = (c.requires.0.numbers, end_low (goal.at.keys_to-requires c)
 
 pub least_path-n-requires : goal.least_path-n-requires
 least_path-n-requires c =
-    let start = (goal.at.least_path-n-requires c).Start in
+    let at_start = (goal.at.least_path-n-requires c).Start in
     let after_keys_to = (goal.at.least_path-n-requires c).After-keys_to in
-    record { linked = (linked after_keys_to, start_low start, rw (keys_are after_keys_to) c.requires.1.linked, omega (arith, c.args.edges.few)); by_index = (c.args.e, end_low start, keys_are after_keys_to) }
+    record { linked = (linked after_keys_to, start_low at_start, rw (keys_are after_keys_to) c.requires.1.linked, omega (arith, c.args.edges.few)); by_index = (end at_start, end_low at_start, keys_are after_keys_to) }
 
 pub offset_bounds-keys-p : goal.offset_bounds-keys-p
 offset_bounds-keys-p c = omega (arith, start_low (goal.at.offset_bounds-keys-p c).Start, c.args.edges.few)
@@ -58,7 +66,7 @@ bounds-keys-p c = omega (arith, start_low (goal.at.bounds-keys-p c).Start, (link
 
 pub returns-then-list-steps : goal.returns-then-list-steps
 returns-then-list-steps c =
-    let both = pair_no_room _ (fits (goal.at.returns-then-list-steps c).Start) c.requires.1 _ _ _ (keys_are (goal.at.returns-then-list-steps c).After-keys_to) c.least_path-n.ensures.count c.least_path-n.ensures.portals _ c.args.leg c.args.last _ c.step_count-steps.ensures c.if-list-steps.true in
+    let both = pair_no_room _ (fits (goal.at.returns-then-list-steps c).Start) c.requires.1 _ _ _ (keys_are (goal.at.returns-then-list-steps c).After-keys_to) c.least_path-n.ensures.count c.least_path-n.ensures.portals _ c.args.pair.leg c.args.pair.last _ c.step_count-steps.ensures c.if-list-steps.true in
     record { answer = rw (c.from.ensures, c.from-2.ensures) both.0; steps = both.1 }
 
 pub write_steps-requires : goal.write_steps-requires
@@ -69,6 +77,6 @@ write_steps-requires c = (
 
 pub returns : goal.returns
 returns c =
-    let both = pair_written _ (fits (goal.at.returns c).Start) c.requires.1 _ _ _ (keys_are (goal.at.returns c).After-keys_to) c.least_path-n.ensures.count c.least_path-n.ensures.portals _ c.args.leg c.args.last _ c.step_count-steps.ensures
+    let both = pair_written _ (fits (goal.at.returns c).Start) c.requires.1 _ _ _ (keys_are (goal.at.returns c).After-keys_to) c.least_path-n.ensures.count c.least_path-n.ensures.portals _ c.args.pair.leg c.args.pair.last _ c.step_count-steps.ensures
     c.if-list-steps.false (rw (taken_long (goal.at.returns c).After-least_path-n) at c.write_steps.ensures) in
     record { answer = rw (c.from.ensures, c.from-2.ensures) both.0; steps = both.1 }
