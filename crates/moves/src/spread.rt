@@ -7,9 +7,6 @@ use crate::open_cells::spot_of;
 use fields::costs::BLOCKED;
 use std::marker::Model;
 
-// Stands for no moves in lists of bytes, as in the definitions: more than any count of moves inside a sector.
-pub const APART: u8 = 255;
-
 // Half h of level 0, which has cell `from` alone.
 fn first_word(from: usize, h: usize) -> u64
     ensures { result ≡ first_word from h }
