@@ -52,7 +52,7 @@ module _ (key : ℕ) (leg last : Option ℕ) where
   some_run a b d = rw (a, b, lt-ltb key unlinked d)
 
 -- the value that is there
-pub some_of : (o : Option ℕ) → IsSome o → Some (unwrap_or o 0) ≡ o
+some_of : (o : Option ℕ) → IsSome o → Some (unwrap_or o 0) ≡ o
 some_of (Some n) e = refl
 some_of None e = cc
 

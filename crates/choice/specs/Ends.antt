@@ -1,8 +1,7 @@
 -- The search from all end portals at once: one node more, the goal, with an arc to each end portal that counts the moves between them.
-use Rattle.std.specs.Prelude.{Option, Some, None, IsSome, unwrap_or, ℕ, ◌+◌, ◌*◌, ◌≤◌, ◌<◌, ◌≡◌, refl, ◌⊎◌, List, [], ◌∷◌, ◌++◌, ltb, length, get_or, set}
-use Rattle.std.proofs.Common.{arith, inl, inr, lt-ltb, le-ltb}
-use Rattle.laws.specs.Fold.{pick}
-use Rattle.laws.specs.Graph.{Graph, Sound, Settled, BothWays, below_or, none_less}
+use Rattle.std.specs.Prelude.{Option, Some, None, IsSome, unwrap_or, ℕ, ◌+◌, ◌*◌, ◌≤◌, ◌<◌, ◌≡◌, refl, List, [], ◌∷◌, ◌++◌, length, get_or, set}
+use Rattle.std.proofs.Common.{arith}
+use Rattle.laws.specs.Graph.{Graph, Sound, Settled, BothWays, none_less}
 use Rattle.laws.specs.Starts.{starts_graph, Begun, Tried, passed, took, starts_over_one, starts_least}
 use Rattle.model.specs.Portals.{sector_portals, hall_portals, key_step}
 use Rattle.model.specs.LeastPath.{unlinked, keys_to}

@@ -1,6 +1,6 @@
 -- The first pair of the least run in two choices: the first start of least cost to the goal over any end, then the first end of least run from it.
-use Rattle.std.specs.Prelude.{Option, Some, None, IsSome, unwrap_or, ℕ, ◌+◌, ◌*◌, ◌/◌, ◌%◌, ◌≤◌, ◌<◌, ◌≡◌, refl, ◌⊎◌, List, get_or}
-use Rattle.std.proofs.Common.{arith, ap, ◌∙◌, inl, inr, lt-ltb}
+use Rattle.std.specs.Prelude.{Option, Some, None, IsSome, ℕ, ◌+◌, ◌*◌, ◌/◌, ◌%◌, ◌≤◌, ◌<◌, ◌≡◌, refl, ◌⊎◌, List, get_or}
+use Rattle.std.proofs.Common.{arith, ap, ◌∙◌, inl, inr}
 use Rattle.std.proofs.Math.Decide.{ℕ_discrete}
 use Rattle.laws.specs.Graph.{Graph, Sound, BothWays, below_or}
 use Rattle.laws.specs.FirstLeast.{FirstLeast, Foremost, foremost_none, foremost_some, none_foremost, foremost_is}

@@ -1,5 +1,5 @@
 -- The edges of a portal in the cases that code meets, and that they are the graph's weights.
-use Rattle.std.specs.Prelude.{if◌then◌else◌, Option, Some, None, unwrap_or, option_map, MatchOption, ℕ, ◌≤◌, ◌<◌, ◌≡◌, Bool, true, false, List, ltb, eqb, get_or}
+use Rattle.std.specs.Prelude.{if◌then◌else◌, Option, Some, None, unwrap_or, option_map, ℕ, ◌≤◌, ◌<◌, ◌≡◌, Bool, true, false, List, ltb, eqb, get_or}
 use Rattle.std.proofs.Common.{arith, sym, ap, ◌∙◌}
 use Rattle.std.proofs.Math.Path.{refl}
 use borrow.Author.Tests.{lt-ltb, eq-eqb, ne_eqb}
@@ -57,11 +57,6 @@ module _ (from : List ℕ) (mid : Option ℕ) (outer own c : ℕ) where
     pub edge_near : {near : ℕ} → Some near ≡ near_by from mid → key near ≡ edge_by from mid outer own c
     unfolding edge_by
     edge_near l = rw (ne_eqb c own e, ← l) refl
-
-    -- both at once
-    pub edge_near_by : {o : Option ℕ} {edge : ℕ} → o ≡ near_by from mid → MatchOption o (edge ≡ 0) (λ near. edge ≡ key near) → edge ≡ edge_by from mid outer own c
-    edge_near_by {o = Some near} l is = is ∙ edge_near l
-    edge_near_by {o = None} l is = is ∙ edge_far l
 
 inner_by : (h : Hall) → Fits h → (from : List ℕ) (q : ℕ) → unwrap_or (option_map key (near_by from (mid_of h q))) 0 ≡ inner_edge h from q
 unfolding inner_edge mid_of near_by

@@ -36,7 +36,7 @@ fn outer_edge(hall: &Opened<'_>, p: usize) -> u32
 }
 
 // The edge at place c of a portal, or 0: at its own place the edge to the facing one, at another the moves to the midpoint there.
-#[tactic(auto, using(crate::specs::Weights::edge_own, crate::specs::Weights::edge_near))]
+#[tactic(auto, using(crate::specs::Weights::edge_own))]
 fn edge_at(spread: &Spread, mid: Option<u8>, outer: u32, own: usize, c: usize) -> u32
     ensures { result ≡ edge_by spread.now mid outer own c }
 {

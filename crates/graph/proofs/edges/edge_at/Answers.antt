@@ -1,7 +1,18 @@
 -- `edge_at` weighs the moves to the midpoint, if there are any.
+use mathlib.Core.Path.{◌≡◌, ◌∙◌}
+use mathlib.Core.List.{List}
+use Prim.Native.Nat.{ℕ}
 use Rattle.std.proofs.Common.{rules}
-use Rattle.graph.specs.Weights.{edge_near_by}
+use Rattle.std.specs.Prelude.{Option, Some, None, MatchOption}
+use Rattle.model.specs.Portals.{key}
+use Rattle.graph.specs.Near.{near_by}
+use Rattle.graph.specs.Weights.{edge_by, edge_far, edge_near}
 use Rattle.graph.proofs.edges.edge_at.Goals as goal
 
+either : (from : List ℕ) (mid : Option ℕ) (outer own c : ℕ) → (c ≡ own → ⊥) → {o : Option ℕ} {edge : ℕ} → o ≡ near_by from mid → MatchOption o (edge ≡ 0) (λ near. edge ≡ key near)
+    → edge ≡ edge_by from mid outer own c
+either from mid outer own c e {o = Some near} l is = is ∙ edge_near from mid outer own c e l
+either from mid outer own c e {o = None} l is = is ∙ edge_far from mid outer own c e l
+
 pub returns : goal.returns
-returns c = edge_near_by _ _ _ _ _ c.if-c-own.false c.near_by.ensures (search rules)
+returns c = either _ _ _ _ _ c.if-c-own.false c.near_by.ensures (search rules)
