@@ -1,6 +1,6 @@
 -- Facts for the proofs of changing: sides that exceed, the hall after a change, and what is answered and left in the store.
 use mathlib.Core.Path.{◌≡◌, refl, sym, ap, ◌∙◌}
-use mathlib.Core.Bool.{Bool, true, false, not}
+use mathlib.Core.Bool.{Bool, true, false, not, ◌&&◌}
 use mathlib.Core.List.{List, [], ◌∷◌}
 use Prim.Native.Nat.{ℕ, zero, suc, ◌+◌, ◌*◌, ◌/◌, ◌%◌, ◌≤◌, ◌<◌}
 use native.Mathlib.Nat.{not-suc-le-zero, le_of_suc-le-suc}
@@ -8,7 +8,9 @@ use native.Mathlib.Omega.{arith}
 use native.Mathlib.Decide.{dec_lt}
 use lib.Dec.{ltb}
 use lib.ListN.{length, get_or, set}
-use Rattle.laws.specs.Fold.{pick}
+use Rattle.laws.specs.Fold.{pick, bit}
+use Rattle.std.specs.Prelude.{Option, Some, None, if◌then◌else◌}
+use Rattle.laws.specs.Options.{some_if}
 use Rattle.laws.specs.Ladder.{refuse}
 use Rattle.laws.specs.Table.{tabulate, length_tabulate, tabulate_at}
 use Rattle.model.specs.declared.Measures.{Measures}
@@ -17,7 +19,7 @@ use Rattle.model.specs.Cells.{side_number, side_at, opposite}
 use Rattle.model.specs.Sectors.{sectors, sector_of, beyond, has_beyond}
 use Rattle.model.specs.SectorSides.{beyond_low}
 use Rattle.model.specs.Accepted.{Accepted}
-use Rattle.model.specs.Windows.{bits, open_place, mark_of, window_count}
+use Rattle.model.specs.Windows.{is_open, begins, begun, bits, open_place, mark_of, window_count}
 use Rattle.model.specs.WindowRuns.{bits_small}
 use Rattle.model.specs.Store.{measures_at, marks_in, hall_in, decode, written}
 use Rattle.model.specs.Change.{is_nearby, rescaled, remarked, changed, exceeds_at, exceeds}
@@ -32,23 +34,31 @@ none_past [] k h = refl
 none_past (x ∷ l) zero h = absurd (not-suc-le-zero h)
 none_past (x ∷ l) (suc k) h = none_past l k (le_of_suc-le-suc h)
 
+-- windows of a mark of the list, and of none past it
+pub windows_some : {marks : List ℕ} (k : ℕ) {mark r : ℕ} → Small marks → mark ≡ get_or marks k 0 → (mark ≤ 1023 → r ≡ window_count mark) → r ≡ window_count (get_or marks k 0)
+windows_some {marks} k s e w = rw (← e) (w (rw e (s.small k)))
+
+pub windows_none : (marks : List ℕ) (k : ℕ) {r : ℕ} → length marks ≤ k → r ≡ 0 → r ≡ window_count (get_or marks k 0)
+unfolding window_count begun begins is_open bit
+windows_none marks k h e = rw (← none_past marks k h) e
+
 pub beyond_few : {m : Measures} (s : ℕ) (side : Side) {other : ℕ} → Accepted m → s ≤ 10000 → other ≡ beyond m s side → other ≤ 20000
 beyond_few {m} s side f l e = omega (arith, f.few_rows, beyond_low m s side)
 
-module _ (m : Measures) (marks : List ℕ) (t s : ℕ) (side : Side) (fresh : is_nearby m t s ≡ true) where
-  pub exceeds_none : has_beyond m s side ≡ false → false ≡ exceeds_at (hall_of m [] [] marks) t s side
-  unfolding exceeds_at
-  exceeds_none h = rw h refl
+pub few_there : (m : Measures) (s : ℕ) (side : Side) {o : Option ℕ} {other : ℕ} → Accepted m → s ≤ 10000 → o ≡ Some other → o ≡ (if has_beyond m s side then Some (beyond m s side) else None) → other ≤ 20000
+few_there m s side f l e o = beyond_few s side f l (some_if (has_beyond m s side) (beyond m s side) (sym e ∙ o)).1
 
-  module _ (h : has_beyond m s side ≡ true) {other : ℕ} (is : other ≡ beyond m s side) {near : Bool} (n : near ≡ is_nearby m t other) where
-    pub exceeds_near : near ≡ true → not near ≡ exceeds_at (hall_of m [] [] marks) t s side
-    unfolding exceeds_at
-    exceeds_near e = rw (h, fresh, ← is, ← n, e) refl
-
-    pub exceeds_edge : {facing : Side} {a b : ℕ} → near ≡ false → facing ≡ opposite side
-        → a ≡ window_count (get_or marks (other * 4 + side_number facing) 0) → b ≡ window_count (get_or marks (s * 4 + side_number side) 0) → ltb a b ≡ exceeds_at (hall_of m [] [] marks) t s side
-    unfolding exceeds_at
-    exceeds_edge e f p q = rw (h, fresh, ← is, ← n, e, p, q, f)
+pub exceeds_by : (m : Measures) (marks : List ℕ) (t s : ℕ) (side : Side) {o : Option ℕ} {r : Bool} → is_nearby m t s ≡ true → o ≡ (if has_beyond m s side then Some (beyond m s side) else None)
+    → (o ≡ None → r ≡ false)
+    → ((other : ℕ) → o ≡ Some other → r ≡ not (is_nearby m t other) && ltb (window_count (get_or marks (other * 4 + side_number (opposite side)) 0)) (window_count (get_or marks (s * 4 + side_number side) 0)))
+    → r ≡ exceeds_at (hall_of m [] [] marks) t s side
+unfolding exceeds_at
+exceeds_by m marks t s side {o} {r} fresh e none some = rw fresh (go (has_beyond m s side) e)
+  where
+    go : (b : Bool) → o ≡ (if b then Some (beyond m s side) else None)
+        → r ≡ b && true && not (is_nearby m t (beyond m s side)) && ltb (window_count (get_or marks (beyond m s side * 4 + side_number (opposite side)) 0)) (window_count (get_or marks (s * 4 + side_number side) 0))
+    go true e = some (beyond m s side) e
+    go false e = none e
 
 -- ---- the hall after a change
 module _ {m : Measures} (st : List ℕ) (read : m ≡ measures_at st) where

@@ -46,19 +46,14 @@ fn remark(m: Measures, costs: &[u8], t: usize, marks: &mut [u16])
     }
 }
 
-// Mark k; a number past the list has none, which is 0.
-fn mark_or_none(marks: &[u16], k: usize) -> u16
-    ensures { result ≡ get_or marks.now k 0 }
-{
-    marks.get(k).copied().unwrap_or(0)
-}
-
-// How many windows a side of sector s has.
+// How many windows a side of sector s has; one past the list has none.
 fn windows_on(marks: &[u16], s: usize, side: Side) -> usize
     requires { Small marks.now × (s ≤ 20000) }
     ensures { result ≡ window_count (get_or marks.now (s * 4 + side_number side) 0) }
 {
-    window_count(mark_or_none(marks, s * 4 + side as usize))
+    marks
+        .get(s * 4 + side as usize)
+        .map_or(0, |mark| window_count(*mark))
 }
 
 // Whether a side of sector s, one of those marked afresh, leads to a sector that is not and has fewer windows on its facing side.
@@ -66,13 +61,10 @@ fn exceeds_at(m: Measures, marks: &[u16], t: usize, s: usize, side: Side) -> boo
     requires { Accepted m × Small marks.now × (t < sectors m) × (s < sectors m) × (is_nearby m t s ≡ true) }
     ensures { result ≡ exceeds_at (hall_of m [] [] marks.now) t s side }
 {
-    match neighbour(m, s, side) {
-        Some(other) => {
-            !is_nearby(m, t, other)
-                && windows_on(marks, other, opposite(side)) < windows_on(marks, s, side)
-        }
-        None => false,
-    }
+    neighbour(m, s, side).is_some_and(|other| {
+        !is_nearby(m, t, other)
+            && windows_on(marks, other, opposite(side)) < windows_on(marks, s, side)
+    })
 }
 
 // Whether it has on any of its sides.
@@ -80,12 +72,7 @@ fn sector_exceeds(m: Measures, marks: &[u16], t: usize, s: usize) -> bool
     requires { Accepted m × Small marks.now × (t < sectors m) × (s < sectors m) × (is_nearby m t s ≡ true) }
     ensures { result ≡ sector_exceeds (hall_of m [] [] marks.now) t s }
 {
-    for side in SIDES {
-        if exceeds_at(m, marks, t, s, side) {
-            return true;
-        }
-    }
-    false
+    SIDES.iter().any(|side| exceeds_at(m, marks, t, s, *side))
 }
 
 // Whether the sector at place k around t has, if there is one.
@@ -94,10 +81,7 @@ fn place_exceeds(m: Measures, marks: &[u16], t: usize, k: usize) -> bool
     requires { Accepted m × Small marks.now × (t < sectors m) × (k < 9) }
     ensures { result ≡ place_exceeds (hall_of m [] [] marks.now) t k }
 {
-    match nearby(m, t, k) {
-        Some(s) => sector_exceeds(m, marks, t, s),
-        None => false,
-    }
+    nearby(m, t, k).is_some_and(|s| sector_exceeds(m, marks, t, s))
 }
 
 // Whether any side has. Only sides of the sectors around t can.
@@ -105,12 +89,7 @@ fn any_exceeds(m: Measures, marks: &[u16], t: usize) -> bool
     requires { Accepted m × Small marks.now × (t < sectors m) }
     ensures { result ≡ exceeds (hall_of m [] [] marks.now) t }
 {
-    for k in 0..PLACES {
-        if place_exceeds(m, marks, t, k) {
-            return true;
-        }
-    }
-    false
+    (0..PLACES).any(|k| place_exceeds(m, marks, t, k))
 }
 
 // The hall of a store after a change, in lent lists.

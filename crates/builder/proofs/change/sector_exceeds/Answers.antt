@@ -1,17 +1,18 @@
 -- `sector_exceeds` searches the four sides of a sector.
-use Rattle.fields.specs.Sides.{sides_at}
-use Rattle.laws.specs.Search.{seeking}
+use Rattle.std.specs.Prelude.{[]}
+use Rattle.std.proofs.Common.{rules, tests}
+use Rattle.std.proofs.lemmas.Iterator.{YieldsList-from_slice}
+use Rattle.std.proofs.lemmas.Iterator.Search.{any_from_yields_List}
+use Rattle.fields.specs.declared.sides.TheConstants.{SIDES}
+use Rattle.model.specs.Change.{exceeds_at}
+use Rattle.store.specs.Layout.{hall_of}
 use Rattle.builder.specs.Around.{sector_exceeds}
-use borrow.Author.Rules.{rules}
+use Rattle.builder.proofs.Around.{any_side}
 use Rattle.builder.proofs.change.sector_exceeds.Goals as goal
-
-pub returns-then-exceeds_at : goal.returns-then-exceeds_at
-unfolding sector_exceeds
-returns-then-exceeds_at c = let e = rw (sides_at c.loop-side.side-index _ c.loop-side-test.true) at c.exceeds_at.ensures in search (rules, seeking)
-
-pub loop-side-preserved : goal.loop-side-preserved
-loop-side-preserved c = let e = rw (sides_at c.loop-side.side-index _ c.loop-side-test.true) at c.exceeds_at.ensures in search (rules, seeking)
 
 pub returns : goal.returns
 unfolding sector_exceeds
-returns c = search (rules, seeking)
+returns c =
+    let a = c.args in
+    let test = exceeds_at (hall_of a.m [] [] a.marks.now) a.t a.s in
+    any_side test (any_from_yields_List test _ _ _ c.any.ensures.ran (YieldsList-from_slice SIDES cc) (λ x b q k. search (rules, tests)))
