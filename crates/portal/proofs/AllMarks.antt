@@ -13,12 +13,9 @@ use Rattle.laws.specs.Search.{first, all, all_at, implies, implied, both}
 use Rattle.model.specs.Windows.{is_open, begins, begun, window_count, first_place, last_place}
 use Rattle.model.specs.WindowRuns.{few_windows}
 use Rattle.portal.specs.declared.runs.OpenRun.{OpenRun}
-use Rattle.portal.specs.Runs.{places_of, rest_of, rest_after}
+use Rattle.portal.specs.Runs.{starts, places_of, rest_of, rest_after}
 
 -- ---- what the code works out
-abbrev counted : ℕ → ℕ
-counted mark = ones (bit_and mark (65535 - mark * 2 % 65536))
-
 abbrev first_of : ℕ → ℕ
 first_of mark = count_trailing_zeros 16 mark
 
@@ -39,7 +36,7 @@ leads mark j =
     (last_place mark j))))
 
 test : ℕ → Bool
-test mark = eqb (counted mark) (window_count mark) && (implies (ltb 0 mark) (splits mark) && all (leads mark) 5)
+test mark = eqb (starts mark) (window_count mark) && (implies (ltb 0 mark) (splits mark) && all (leads mark) 5)
 
 passed : all test 1024 ≡ true
 unfolding all test splits leads implies run bit ones count_trailing_zeros is_open begins begun window_count first first_place last_place rest_of
@@ -65,15 +62,15 @@ record Leads (mark j : ℕ) : Type 0 where
   same : places_of (rest_after mark j) 0 ≡ places_of mark j
 
 module _ (mark : ℕ) (small : mark ≤ 1023) where
-  tested : (eqb (counted mark) (window_count mark) ≡ true) × (implies (ltb 0 mark) (splits mark) ≡ true) × (all (leads mark) 5 ≡ true)
+  tested : (eqb (starts mark) (window_count mark) ≡ true) × (implies (ltb 0 mark) (splits mark) ≡ true) × (all (leads mark) 5 ≡ true)
   unfolding test
   tested =
-      let t = both (eqb (counted mark) (window_count mark)) (implies (ltb 0 mark) (splits mark) && all (leads mark) 5) (all_at test 1024 mark passed (omega arith)) in
+      let t = both (eqb (starts mark) (window_count mark)) (implies (ltb 0 mark) (splits mark) && all (leads mark) 5) (all_at test 1024 mark passed (omega arith)) in
       let u = both (implies (ltb 0 mark) (splits mark)) (all (leads mark) 5) t.1 in
       (t.0, u.0, u.1)
 
-  pub count_is : counted mark ≡ window_count mark
-  count_is = eqb-true (counted mark) (window_count mark) tested.0
+  pub count_is : starts mark ≡ window_count mark
+  count_is = eqb-true (starts mark) (window_count mark) tested.0
 
   pub split : 0 < mark → Split mark
   unfolding splits

@@ -1,7 +1,7 @@
 -- Facts for the listing's proofs: a window's entry, and a list that begins with the entries of some windows.
 use mathlib.Core.Path.{◌≡◌, refl, sym, ap, ◌∙◌}
 use mathlib.Core.List.{List, [], ◌∷◌, ◌++◌, append_assoc, append-nil}
-use Prim.Native.Nat.{ℕ, zero, suc, ◌+◌, ◌-◌, ◌*◌, ◌≤◌, ◌<◌}
+use Prim.Native.Nat.{ℕ, zero, suc, ◌+◌, ◌-◌, ◌*◌, ◌%◌, ◌≤◌, ◌<◌}
 use native.Mathlib.Nat.{add-zero}
 use native.Mathlib.Numerals.{add-one}
 use native.Mathlib.Omega.{arith}
@@ -10,6 +10,7 @@ use mir.Syntax.{w64}
 use lib.ListN.{length, get_or, take, drop, length-append, length-take, length-drop, drop_of_length-le}
 use lib.Seq.{take_at, drop_at, drop-drop, take_all}
 use borrow.Rule.Slice.PartMut.{put_mid}
+use Rattle.std.specs.List.{sum_by}
 use Rattle.laws.specs.Table.{tabulate, length_tabulate, tabulate_more}
 use Rattle.model.specs.declared.PortalWindow.{PortalWindow}
 use Rattle.model.specs.declared.Side.{Side}
@@ -19,7 +20,8 @@ use Rattle.model.specs.Windows.{border, window_count, window_at, side_windows}
 use Rattle.model.specs.WindowRuns.{window_run}
 use Rattle.model.specs.Calls.{flat_windows}
 use Rattle.portal.specs.declared.runs.OpenRun.{OpenRun}
-use Rattle.portal.specs.Runs.{places_of}
+use Rattle.portal.specs.Runs.{starts, places_of}
+use Rattle.portal.proofs.AllMarks.{few_ones, count_is}
 use Rattle.portal.specs.SectorWindows.{windows_by, FourMarks, over, length_by, few_by}
 
 -- ---- an entry
@@ -169,16 +171,32 @@ triple_fits {marks} {count} {k} r f = omega (arith, r.counted, r.filled.within, 
 pub ruleset filling = (sides_at, sector_none, sector_start, sector_room, sector_turn, sector_end, sector_count, four_small, sum_fits, triple_fits)
 
 -- ---- how many windows a sector has
--- the windows of the first k sides are counted
-pub record Counted (marks : List ℕ) (k count : ℕ) : Type 0 where
-  pub few : count ≤ 16 * k
-  pub is : FourMarks marks → count ≡ length (windows_by marks k)
+-- four marks, summed
+module _ (marks : List ℕ) (four : length marks ≡ 4) where
+  abbrev starts_at : ℕ → ℕ
+  starts_at k = starts (get_or marks k 0)
 
-pub counted_none : (marks : List ℕ) → Counted marks 0 0
-unfolding windows_by
-counted_none marks = record { few = omega arith; is = λ f. refl }
+  sum_four : sum_by starts marks ≡ starts_at 0 + starts_at 1 + starts_at 2 + starts_at 3
+  sum_four = go marks four
+    where
+      go : (l : List ℕ) → length l ≡ 4 → sum_by starts l ≡ starts (get_or l 0 0) + starts (get_or l 1 0) + starts (get_or l 2 0) + starts (get_or l 3 0)
+      go [] e = absurd (omega arith)
+      go (a ∷ []) e = absurd (omega arith)
+      go (a ∷ b ∷ []) e = absurd (omega arith)
+      go (a ∷ b ∷ c ∷ []) e = absurd (omega arith)
+      go (a ∷ b ∷ c ∷ d ∷ []) e = omega arith
+      go (a ∷ b ∷ c ∷ d ∷ x ∷ l) e = absurd (omega arith)
 
-pub counted_more : {marks : List ℕ} {k count n : ℕ} → Counted marks k count → k < 4 → n ≤ 16 → (get_or marks k 0 ≤ 1023 → n ≡ window_count (get_or marks k 0)) → Counted marks (k + 1) (count + n)
-counted_more {marks} {k} r l few e = record { few = omega (arith, r.few); is = λ f. rw add-one (omega (arith, r.is f, length_by marks k, e (f.small k l))) }
+  -- they are few, since a u16 has no more than 16 ones
+  pub sum_few : ((k : ℕ) → get_or marks k 0 < 65536) → sum_by starts marks ≤ 64
+  sum_few small = omega (arith, sum_four, few 0, few 1, few 2, few 3)
+    where
+      few : (k : ℕ) → starts_at k ≤ 16
+      few k = few_ones (get_or marks k 0) (65535 - get_or marks k 0 * 2 % 65536) (small k)
 
-pub ruleset counting = (counted_none, counted_more)
+  pub sum_is : FourMarks marks → sum_by starts marks ≡ length (windows_by marks 4)
+  unfolding windows_by
+  sum_is f = omega (arith, sum_four, side 0 (omega arith), side 1 (omega arith), side 2 (omega arith), side 3 (omega arith), length_by marks 0, length_by marks 1, length_by marks 2, length_by marks 3)
+    where
+      side : (k : ℕ) → k < 4 → starts_at k ≡ window_count (get_or marks k 0)
+      side k l = count_is (get_or marks k 0) (f.small k l)

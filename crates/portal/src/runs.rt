@@ -1,7 +1,7 @@
 // The windows of a mark: ten bits, bit i for place i.
 ghost use Rattle.std.specs.Prelude.{◌≡◌, ◌≤◌, ◌<◌};
 ghost use Rattle.model.specs.Windows.{window_count};
-ghost use Rattle.portal.specs.Runs.{places_of, rest_of};
+ghost use Rattle.portal.specs.Runs.{starts, places_of, rest_of};
 
 // The first and the last place of a window.
 #[derive(Drop)]
@@ -20,7 +20,7 @@ struct RunAndRest {
 // How many windows a mark has: its ones with a zero below them.
 #[tactic(auto, using(crate::proofs::AllMarks::few_ones, crate::proofs::AllMarks::count_is))]
 pub fn window_count(mark: u16) -> usize
-    ensures { (result ≤ 16) × (mark ≤ 1023 → result ≡ window_count mark) }
+    ensures { (result ≤ 16) × (mark ≤ 1023 → result ≡ window_count mark) × (result ≡ starts mark) }
 {
     (mark & !(mark << 1)).count_ones() as usize
 }

@@ -46,15 +46,10 @@ fn side_windows(list: &mut [u8], side: Side, mark: u16) -> usize
 }
 
 // How many windows a sector has.
-#[tactic(auto, using(crate::proofs::Entries::counting))]
 pub fn windows_number(marks: [u16; 4]) -> usize
     ensures { FourMarks marks → result ≡ length (windows_by marks 4) }
 {
-    let mut count = 0;
-    for mark in marks {
-        count += window_count(mark);
-    }
-    count
+    marks.iter().map(|mark| window_count(*mark)).sum()
 }
 
 // The windows of a sector, N, E, S, W, at the front of a list, and how many there are.
