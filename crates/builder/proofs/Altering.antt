@@ -42,7 +42,7 @@ pub windows_none : (marks : List ℕ) (k : ℕ) {r : ℕ} → length marks ≤ k
 unfolding window_count begun begins is_open bit
 windows_none marks k h e = rw (← none_past marks k h) e
 
-pub beyond_few : {m : Measures} (s : ℕ) (side : Side) {other : ℕ} → Accepted m → s ≤ 10000 → other ≡ beyond m s side → other ≤ 20000
+beyond_few : {m : Measures} (s : ℕ) (side : Side) {other : ℕ} → Accepted m → s ≤ 10000 → other ≡ beyond m s side → other ≤ 20000
 beyond_few {m} s side f l e = omega (arith, f.few_rows, beyond_low m s side)
 
 pub few_there : (m : Measures) (s : ℕ) (side : Side) {o : Option ℕ} {other : ℕ} → Accepted m → s ≤ 10000 → o ≡ Some other → o ≡ (if has_beyond m s side then Some (beyond m s side) else None) → other ≤ 20000

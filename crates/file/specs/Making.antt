@@ -4,7 +4,7 @@ use Rattle.std.proofs.Math.Path.{refl}
 use Rattle.std.proofs.Common.{sym, ap, ◌∙◌, add-zero, arith, length-set, get_or-set_other, get_or-append-add, get_or-drop, eq-eqb, ne_eqb, ltb-true, ltb-false}
 use Rattle.std.proofs.Math.Bool.{true, false}
 use Rattle.std.specs.Int.{from_bool}
-use Rattle.laws.specs.Fold.{pick, bit}
+use Rattle.laws.specs.Fold.{bit}
 use Rattle.laws.specs.Search.{count_le, count_up, count_above, Counted, counted_none, counted_turn, counted_all}
 use Rattle.laws.specs.Toward.{toward, front_of}
 use Rattle.model.specs.declared.Measures.{Measures}
@@ -29,48 +29,18 @@ count_bit base n = go (not (eqb (get_or base n 0) 1))
 abbrev pub opening : Measures → ℕ → List ℕ
 opening m entries = m.columns ∷ m.rows ∷ m.scale ∷ entries % 256 ∷ entries / 256 ∷ []
 
--- cell n as entry k of a file of so many entries, and where the cell has none the file as it is
-abbrev pub set_cell : List ℕ → ℕ → ℕ → ℕ → List ℕ → List ℕ
-set_cell base n k entries file = set (set (set file (5 + 2 * k) (n % 256)) (5 + 2 * k + 1) (n / 256)) (5 + 2 * entries + k) (get_or base n 0)
-
-unfoldable pub put_cell : List ℕ → ℕ → ℕ → ℕ → List ℕ → List ℕ
-put_cell base n k entries file = pick (is_named base n) (set_cell base n k entries file) file
+-- entry k of a file of so many entries: a cell by its number, and its cost
+abbrev pub set_entry : ℕ → ℕ → ℕ → ℕ → List ℕ → List ℕ
+set_entry n cost k entries file = set (set (set file (5 + 2 * k) (n % 256)) (5 + 2 * k + 1) (n / 256)) (5 + 2 * entries + k) cost
 
 -- what the test of a cell's cost decides
-module _ (base : List ℕ) (n : ℕ) (h : get_or base n 0 ≡ 1) where
-  skips : is_named base n ≡ false
-  unfolding is_named
-  skips = rw (eq-eqb (get_or base n 0) 1 h)
+skips : (base : List ℕ) (n : ℕ) → get_or base n 0 ≡ 1 → is_named base n ≡ false
+unfolding is_named
+skips base n h = rw (eq-eqb (get_or base n 0) 1 h)
 
-  skip_count : 0 ≡ bit (is_named base n)
-  unfolding bit
-  skip_count = rw skips
-
-  pub skip_more : (k : ℕ) → k ≡ k + bit (is_named base n)
-  skip_more k = rw (← skip_count) (sym (add-zero k))
-
-  pub skip_cell : (k entries : ℕ) (file : List ℕ) → file ≡ put_cell base n k entries file
-  unfolding put_cell
-  skip_cell k entries file = rw skips
-
-module _ (base : List ℕ) (n : ℕ) (h : get_or base n 0 ≢ 1) where
-  takes : is_named base n ≡ true
-  unfolding is_named
-  takes = rw (ne_eqb (get_or base n 0) 1 h)
-
-  take_count : 1 ≡ bit (is_named base n)
-  unfolding bit
-  take_count = rw takes
-
-  pub take_room : {k entries : ℕ} → (is_named base n ≡ true → k < entries) → k < entries
-  take_room room = room takes
-
-  pub take_more : (k : ℕ) → k + 1 ≡ k + bit (is_named base n)
-  take_more k = rw (← take_count)
-
-  pub take_cell : (k entries : ℕ) (file : List ℕ) → set_cell base n k entries file ≡ put_cell base n k entries file
-  unfolding put_cell
-  take_cell k entries file = rw takes
+takes : (base : List ℕ) (n : ℕ) → get_or base n 0 ≢ 1 → is_named base n ≡ true
+unfolding is_named
+takes base n h = rw (ne_eqb (get_or base n 0) 1 h)
 
 -- After n cells, with k entries: these stand in both parts as in the whole file, whatever its measures, and what is past the file is as it was lent.
 pub record Made (base lent : List ℕ) (entries n k : ℕ) (out : List ℕ) : Type 0 where
@@ -100,13 +70,16 @@ module _ {base lent : List ℕ} {entries n k : ℕ} {out : List ℕ} (s : Made b
   pub made_small : entries ≤ length base
   made_small = omega (arith, s.all, named_count base, count_le (is_named base) (length base))
 
-  pub made_room : n < length base → is_named base n ≡ true → k < entries
-  made_room l e = omega (arith, s.all, named_count base, s.counted.is, count_above (is_named base) n (length base) l e)
+  room : n < length base → is_named base n ≡ true → k < entries
+  room l e = omega (arith, s.all, named_count base, s.counted.is, count_above (is_named base) n (length base) l e)
+
+  pub made_room : n < length base → get_or base n 0 ≢ 1 → k < entries
+  made_room l h = room l (takes base n h)
 
   -- a cell that has an entry
   module _ (l : n < length base) (e : is_named base n ≡ true) where
     place : k < length (named_cells base)
-    place = omega (arith, made_room l e, s.all)
+    place = omega (arith, room l e, s.all)
 
     cell : get_or (named_cells base) k 0 ≡ n
     cell = named_at base n k l e s.counted.is
@@ -126,49 +99,47 @@ module _ {base lent : List ℕ} {entries n k : ℕ} {out : List ℕ} (s : Made b
 
     -- what was right is right, and entry k besides
     put_right : (m : Measures) (p : ℕ) → (p ≢ 5 + 2 * k → p ≢ 5 + 2 * k + 1 → p ≢ 5 + 2 * entries + k → get_or out p 0 ≡ get_or (file_of m base) p 0)
-        → get_or (set_cell base n k entries out) p 0 ≡ get_or (file_of m base) p 0
+        → get_or (set_entry n (get_or base n 0) k entries out) p 0 ≡ get_or (file_of m base) p 0
     put_right m p old =
-        let r = made_room l e in
+        let r = room l e in
         let file : List ℕ = file_of m base in
         toward file both (5 + 2 * entries + k) (omega (arith, s.fits, long_both)) (sym (rw (← s.all, cell) at (file_cost m base k place))) p
         (λ third. toward file low (5 + 2 * k + 1) (omega (arith, s.fits, long_low)) (sym (rw cell at (file_high m base k place))) p
         (λ second. toward file out (5 + 2 * k) (omega (arith, s.fits)) (sym (rw cell at (file_low m base k place))) p (λ one. old one second third)))
 
-    put_past : (p : ℕ) → 5 + 3 * entries ≤ p → get_or (set_cell base n k entries out) p 0 ≡ get_or lent p 0
+    put_past : (p : ℕ) → 5 + 3 * entries ≤ p → get_or (set_entry n (get_or base n 0) k entries out) p 0 ≡ get_or lent p 0
     put_past p h =
-        let r = made_room l e in
+        let r = room l e in
         get_or-set_other both (5 + 2 * entries + k) p (get_or base n 0) 0 (λ z. omega arith) ∙ get_or-set_other low (5 + 2 * k + 1) p (n / 256) 0 (λ z. omega arith)
         ∙ get_or-set_other out (5 + 2 * k) p (n % 256) 0 (λ z. omega arith) ∙ s.behind p h
 
-  pub made_turn : {r : ℕ} {new : List ℕ} → n < length base → r ≡ k + bit (is_named base n) → new ≡ put_cell base n k entries out → length new ≡ length out → Made base lent entries (n + 1) r new
-  unfolding put_cell bit
-  made_turn {r} {new} l er en long = go (is_named base n) refl
-    where
-      go : (b : Bool) → is_named base n ≡ b → Made base lent entries (n + 1) r new
-      go true e =
-          let more : r ≡ k + 1 = rw e at er in
-          let put : new ≡ set_cell base n k entries out = rw e at en in
-          record {
-            all = s.all;
-            counted = rw er (counted_turn s.counted l refl);
-            fits = omega (arith, s.fits);
-            same = long ∙ s.same;
-            numbers = λ m p h i. rw put (put_right l e m p (λ one second third. s.numbers m p h (omega arith)));
-            costs = λ m p h i. rw put (put_right l e m p (λ one second third. s.costs m p h (omega arith)));
-            behind = λ p h. rw put (put_past l e p h);
-          }
-      go false e =
-          let still : r ≡ k = omega (arith, rw e at er) in
-          let kept : new ≡ out = rw e at en in
-          record {
-            all = s.all;
-            counted = rw er (counted_turn s.counted l refl);
-            fits = omega (arith, s.fits);
-            same = long ∙ s.same;
-            numbers = λ m p h i. rw kept (s.numbers m p h (omega arith));
-            costs = λ m p h i. rw kept (s.costs m p h (omega arith));
-            behind = λ p h. rw kept (s.behind p h);
-          }
+  pub made_put : {cost count r : ℕ} {new : List ℕ} → n < length base → cost ≡ get_or base n 0 → cost ≢ 1 → count ≡ entries → r ≡ k + 1 → new ≡ set_entry n cost k count out → length new ≡ length out
+      → Made base lent entries (n + 1) r new
+  unfolding bit
+  made_put {cost} {count} {r} {new} l c h en er e long =
+      let named : is_named base n ≡ true = takes base n (λ z. h (c ∙ z)) in
+      let put : new ≡ set_entry n (get_or base n 0) k entries out = rw (c, en) at e in
+      record {
+        all = s.all;
+        counted = rw er (counted_turn s.counted l (rw named));
+        fits = omega (arith, s.fits);
+        same = long ∙ s.same;
+        numbers = λ m p h i. rw put (put_right l named m p (λ one second third. s.numbers m p h (omega arith)));
+        costs = λ m p h i. rw put (put_right l named m p (λ one second third. s.costs m p h (omega arith)));
+        behind = λ p h. rw put (put_past l named p h);
+      }
+
+  pub made_skip : n < length base → get_or base n 0 ≡ 1 → Made base lent entries (n + 1) k out
+  unfolding bit
+  made_skip l h = record {
+    all = s.all;
+    counted = rw (add-zero k) at (counted_turn {r = 0} s.counted l (rw (skips base n h)));
+    fits = s.fits;
+    same = s.same;
+    numbers = s.numbers;
+    costs = s.costs;
+    behind = s.behind;
+  }
 
 -- the file opens so
 opened : (m : Measures) (base rest : List ℕ) (entries : ℕ) → entries ≡ length (named_cells base) → (p : ℕ) → p < 5 → get_or (opening m entries ++ rest) p 0 ≡ get_or (file_of m base) p 0
@@ -209,4 +180,4 @@ module _ (m : Measures) {base lent : List ℕ} {entries n k : ℕ} {out whole : 
       (λ p h. rw e (opened_past m entries out p (omega (arith, entries_is)) ∙ s.behind p (omega (arith, entries_is))))
 
 -- for `search (needs, making)`
-pub ruleset making = (made_none, made_few, made_small, made_room, made_turn, made_all)
+pub ruleset making = (made_none, made_few, made_small, made_room, made_put, made_skip, made_all)

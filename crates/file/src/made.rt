@@ -2,7 +2,7 @@
 ghost use Rattle.std.specs.Prelude.{◌≡◌, true, ◌++◌, ◌+◌, ◌*◌, ◌≤◌, ◌<◌, length, drop};
 ghost use Rattle.laws.specs.Fold.{bit};
 ghost use Rattle.model.specs.Store.{is_named, named_cells, file_of};
-ghost use Rattle.file.specs.Making.{opening, put_cell};
+ghost use Rattle.file.specs.Making.{opening, set_entry};
 
 use fields::copies::put_front;
 use model::Measures;
@@ -28,19 +28,27 @@ fn put_opening(m: Measures, count: usize, file: &mut [u8])
     put_u16(file, 3, count as u16);
 }
 
-// Puts cell n, if it has an entry, into a file of count entries, of which k are in. Gives how many are in then.
-fn put_cell(base: &[u8], n: usize, k: usize, count: usize, file: &mut [u8]) -> usize
-    requires { (n < length base.now) × (n < 65536) × (k ≤ count) × (is_named base.now n ≡ true → k < count) × (5 + 3 * count ≤ length file.old) }
-    ensures count { result ≡ k + bit (is_named base.now n) }
-    ensures put { file.new ≡ put_cell base.now n k count file.old }
-{
-    let cost = base[n];
-    if cost == 1 {
-        return k;
+// A file that is being made: how many entries it has, and how many of them are in.
+#[derive(Drop)]
+struct Made<'a> {
+    file: &'a mut [u8],
+    count: usize,
+    put: usize,
+}
+
+impl Made<'_> {
+    // Puts the next entry.
+    fn push(&mut self, n: usize, cost: u8)
+        requires { (n < 65536) × (self.old.put < self.old.count) × (5 + 3 * self.old.count ≤ length self.old.file.now) }
+        ensures same { self.new.file.ghost_name ≡ self.old.file.ghost_name }
+        ensures long { length self.new.file.now ≡ length self.old.file.now }
+        ensures count { (self.new.count ≡ self.old.count) × (self.new.put ≡ self.old.put + 1) }
+        ensures put { self.new.file.now ≡ set_entry n cost self.old.put self.old.count self.old.file.now }
+    {
+        put_u16(self.file, 5 + 2 * self.put, n as u16);
+        self.file[5 + 2 * self.count + self.put] = cost;
+        self.put += 1;
     }
-    put_u16(file, 5 + 2 * k, n as u16);
-    file[5 + 2 * count + k] = cost;
-    k + 1
 }
 
 // Makes the file of a floor, which has count entries, at the front of a list. Bytes past it stay.
@@ -48,9 +56,15 @@ pub fn make_file(m: Measures, base: &[u8], count: usize, file: &mut [u8])
     requires { (length base.now ≤ 10000) × (count ≡ length (named_cells base.now)) × (5 + 3 * count ≤ length file.old) }
     ensures { file.new ≡ file_of m base.now ++ drop (length (file_of m base.now)) file.old }
 {
-    let mut k = 0;
-    for n in 0..base.len() {
-        k = put_cell(base, n, k, count, file);
+    let mut made = Made {
+        file,
+        count,
+        put: 0,
+    };
+    for (n, cost) in base.iter().enumerate() {
+        if *cost != 1 {
+            made.push(n, *cost);
+        }
     }
-    put_opening(m, count, file);
+    put_opening(m, count, made.file);
 }
