@@ -13,10 +13,11 @@ ghost use Rattle.builder.specs.Around.{sector_fresh, sector_exceeds, place_excee
 ghost use Rattle.builder.specs.Marks.{Small};
 ghost use Rattle.builder.specs.Parts.{Changeable, altered_number, altered_into};
 
-use crate::marks::{MOST_SIDES, mark_side, take_marks};
+use crate::marks::{MOST_SIDES, take_marks};
 use fields::sectors::{MOST_CELLS, cells, neighbour, sectors};
 use fields::sides::{SIDES, opposite};
 use model::{Measures, Refusal, Side};
+use portal::marks::side_mark;
 use portal::runs::window_count;
 use sector_cost::nearby::{PLACES, is_nearby, nearby};
 use sector_cost::rescale;
@@ -28,8 +29,8 @@ fn remark_sector(m: Measures, costs: &[u8], s: usize, marks: &mut [u16])
     requires { Accepted m × (s < sectors m) × (length marks.old ≡ sectors m * 4) }
     ensures { marks.new ≡ sector_fresh m costs.now s marks.old }
 {
-    for i in 0..4 {
-        mark_side(m, costs, s * 4 + i, marks);
+    for (i, side) in SIDES.iter().enumerate() {
+        marks[s * 4 + i] = side_mark(m, costs, s, *side);
     }
 }
 
