@@ -11,24 +11,17 @@ use model::Measures;
 use sector_cost::scale_all_costfields;
 use store::layout::write_hall;
 
-// Scales and marks a hall in lent lists, and writes it into a store.
-fn build_in(m: Measures, base: &[u8], scaled: &mut [u8], marks: &mut [u16], st: &mut [u8])
-    requires { Buildable m base.now st.old × (length scaled.old ≡ cells m) × (length marks.old ≡ sectors m * 4) }
-    ensures { st.new ≡ written (built m base.now) st.old }
-{
-    scale_all_costfields(m, base, scaled);
-    mark_all(m, scaled, marks);
-    write_hall(m, base, scaled, marks, st);
-}
-
-// The same in lists of its own.
+// Scales and marks a hall, and writes it into a store.
+#[tactic(auto, unfolding(model::specs::Calls::built))]
 pub fn build_hall(m: Measures, base: &[u8], st: &mut [u8])
     requires { Buildable m base.now st.old }
     ensures { st.new ≡ written (built m base.now) st.old }
 {
     let mut scaled = [0u8; MOST_CELLS];
     let mut marks = [0u16; MOST_SIDES];
-    let size = cells(m);
-    let sides = sectors(m) * 4;
-    build_in(m, base, &mut scaled[..size], &mut marks[..sides], st);
+    let scaled = &mut scaled[..cells(m)];
+    let marks = &mut marks[..sectors(m) * 4];
+    scale_all_costfields(m, base, scaled);
+    mark_all(m, scaled, marks);
+    write_hall(m, base, scaled, marks, st);
 }
