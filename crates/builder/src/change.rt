@@ -115,19 +115,17 @@ fn change_lists(
     remark(m, scaled, n / 100, marks);
 }
 
-// Changes a hall in lent lists, and writes it into the store unless that is refused.
-fn change_in(
-    m: Measures,
-    n: usize,
-    cost: u8,
-    base: &mut [u8],
-    scaled: &mut [u8],
-    marks: &mut [u16],
-    st: &mut [u8],
-) -> Result<(), Refusal>
-    requires { Changeable m st.old n × (length base.old ≡ cells m) × (length scaled.old ≡ cells m) × (length marks.old ≡ sectors m * 4) }
+// Changes a hall, and writes it into the store unless that is refused.
+pub fn change_hall(m: Measures, n: usize, cost: u8, st: &mut [u8]) -> Result<(), Refusal>
+    requires { Changeable m st.old n }
     ensures { (number_of result ≡ altered_number st.old n cost) × (st.new ≡ altered_into st.old n cost) }
 {
+    let mut base = [0u8; MOST_CELLS];
+    let mut scaled = [0u8; MOST_CELLS];
+    let mut marks = [0u16; MOST_SIDES];
+    let base = &mut base[..cells(m)];
+    let scaled = &mut scaled[..cells(m)];
+    let marks = &mut marks[..sectors(m) * 4];
     let hall = Opened {
         store: Store {
             measures: m,
@@ -140,25 +138,4 @@ fn change_in(
     }
     write_hall(m, base, scaled, marks, st);
     Ok(())
-}
-
-// The same in lists of its own.
-pub fn change_hall(m: Measures, n: usize, cost: u8, st: &mut [u8]) -> Result<(), Refusal>
-    requires { Changeable m st.old n }
-    ensures { (number_of result ≡ altered_number st.old n cost) × (st.new ≡ altered_into st.old n cost) }
-{
-    let mut base = [0u8; MOST_CELLS];
-    let mut scaled = [0u8; MOST_CELLS];
-    let mut marks = [0u16; MOST_SIDES];
-    let size = cells(m);
-    let sides = sectors(m) * 4;
-    change_in(
-        m,
-        n,
-        cost,
-        &mut base[..size],
-        &mut scaled[..size],
-        &mut marks[..sides],
-        st,
-    )
 }

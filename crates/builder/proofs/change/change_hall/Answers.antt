@@ -1,7 +1,7 @@
--- `change_in` refuses before it writes.
+-- `change_hall` refuses before it writes.
 use Rattle.builder.proofs.Altering.{small_changed, altered_22, altered_0, altered_kept, altered_written}
 use borrow.Author.Rules.{rules}
-use Rattle.builder.proofs.change.change_in.Goals as goal
+use Rattle.builder.proofs.change.change_hall.Goals as goal
 
 pub any_exceeds-requires : goal.any_exceeds-requires
 any_exceeds-requires c = (search rules, search (rules, small_changed), search rules)
