@@ -37,8 +37,7 @@ pub fn side_mark(m: Measures, costs: &[u8], s: usize, side: Side) -> u16
     requires { (1 ≤ m.rows) × (s ≤ 10000) }
     ensures { result ≡ mark_of m costs.now s side }
 {
-    match neighbour(m, s, side) {
-        Some(t) => cells_mark(costs, s, t, boundary_field_cells(side)),
-        None => 0,
-    }
+    neighbour(m, s, side).map_or(0, |t| {
+        cells_mark(costs, s, t, boundary_field_cells(side))
+    })
 }

@@ -86,7 +86,7 @@ fn reset_sector(base: &[u8], s: usize, scaled: &mut [u8])
     copy_part(base, a, SECTOR_CELLS, a, scaled);
 }
 
-// Resets the sectors around t. This loop and the next stay two: a closure over lists that it changes is no plainer, and its proof is longer.
+// Resets the sectors around t. This loop, the next one and `remark` of builder stay three: a closure over lists that it changes is no plainer, and its proof is longer.
 #[tactic(auto, using(laws::specs::Fold::counting, model::specs::Nearby::nearby_lt))]
 fn reset_nearby(m: Measures, base: &[u8], t: usize, scaled: &mut [u8])
     requires { Costs m base.now × Costs m scaled.old × (t < sectors m) }

@@ -1,5 +1,5 @@
 // The sector that a change is in, place 0, and its up to eight surrounding ones, places 1 to 8 in the order of the directions.
-ghost use Rattle.std.specs.Prelude.{◌≡◌, ◌&&◌, ◌≤◌, eqb};
+ghost use Rattle.std.specs.Prelude.{◌≡◌, ◌≤◌};
 ghost use Rattle.std.specs.Bool.{then_some};
 ghost use Rattle.model.specs.Change.{nearby, is_there, is_nearby};
 
@@ -20,18 +20,10 @@ pub fn nearby(m: Measures, t: usize, k: usize) -> Option<usize>
     towards(m, t, shift_of(compass(k - 1)))
 }
 
-// Whether it is sector s.
-fn is_place(m: Measures, t: usize, s: usize, k: usize) -> bool
-    requires { (1 ≤ m.rows) × (t ≤ 10000) }
-    ensures { result ≡ is_there m t k && eqb (nearby m t k) s }
-{
-    nearby(m, t, k) == Some(s)
-}
-
 // Whether sector s is one of the nine.
 pub fn is_nearby(m: Measures, t: usize, s: usize) -> bool
     requires { (1 ≤ m.rows) × (t ≤ 10000) }
     ensures { result ≡ is_nearby m t s }
 {
-    (0..PLACES).any(|k| is_place(m, t, s, k))
+    (0..PLACES).any(|k| nearby(m, t, k) == Some(s))
 }

@@ -1,6 +1,6 @@
 -- The parts of a hall where a store has them: what is read at each place, and what is written there.
-use Rattle.std.specs.Prelude.{◌≡◌, List, [], ◌∷◌, ℕ, ◌+◌, ◌-◌, ◌*◌, ◌/◌, ◌%◌, ◌≤◌, ◌<◌, length, take, drop, get_or, set}
-use Rattle.std.proofs.Common.{sym, ap, ◌∙◌, add-zero, arith}
+use Rattle.std.specs.Prelude.{◌≡◌, List, ℕ, ◌+◌, ◌-◌, ◌*◌, ◌/◌, ◌%◌, ◌≤◌, ◌<◌, length, take, drop, get_or, set}
+use Rattle.std.proofs.Common.{sym, ap, ◌∙◌, arith}
 use Rattle.std.proofs.Math.Nat.{add-sub_cancel_left}
 use Rattle.laws.specs.Region.{region, region_region}
 use Rattle.laws.specs.Table.{tabulate}
@@ -40,8 +40,3 @@ set_mark marks k bytes = set (set bytes (2 * k) (get_or marks k 0 % 256)) (2 * k
 
 pub mark_is : (m : Measures) (st : List ℕ) (k : ℕ) {n r : ℕ} → k < sectors m * 4 → n ≡ cells m → r ≡ u16_at st (4 + 2 * n + 2 * k) → r ≡ get_or (marks_in m st) k 0
 mark_is m st k l e h = h ∙ ap (λ n. u16_at st (4 + 2 * n + 2 * k)) e ∙ sym (mark_at_lem m st k l)
-
-pub four_are : (marks : List ℕ) (s : ℕ) {a b d e : ℕ} → a ≡ get_or marks (s * 4) 0 → b ≡ get_or marks (s * 4 + 1) 0 → d ≡ get_or marks (s * 4 + 2) 0 → e ≡ get_or marks (s * 4 + 3) 0
-    → a ∷ b ∷ d ∷ e ∷ [] ≡ sector_marks marks s
-unfolding sector_marks tabulate
-four_are marks s p q d e = rw (add-zero, p, q, d, e)

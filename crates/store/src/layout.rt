@@ -10,6 +10,7 @@ use crate::reading::{put_u16, u16_at};
 use fields::copies::{put_front, put_part};
 use fields::sectors::{SECTOR_CELLS, cells, sectors};
 use model::Measures;
+use std::array::from_fn;
 
 // A store that has the bytes of a hall of these measures.
 #[derive(Clone, Copy)]
@@ -62,17 +63,12 @@ impl<'a> Store<'a> {
     }
 
     // The marks of the four sides of sector s.
-    #[tactic(auto, using(crate::specs::Layout::four_are))]
+    #[tactic(auto, unfolding(crate::specs::Layout::sector_marks, laws::specs::Table::tabulate))]
     pub fn sector_marks(&self, s: usize) -> [u16; 4]
         requires { s < sectors self.now.measures }
         ensures { result ≡ sector_marks (held self.now).marks s }
     {
-        [
-            self.mark(s * 4),
-            self.mark(s * 4 + 1),
-            self.mark(s * 4 + 2),
-            self.mark(s * 4 + 3),
-        ]
+        from_fn(|k| self.mark(s * 4 + k))
     }
 }
 
