@@ -1,12 +1,15 @@
 -- Facts for the proofs of the lines: the letters of sides, and what texts say that are put one behind the other.
-use Rattle.std.specs.Prelude.{◌≡◌, refl, List, [], ◌∷◌, ◌++◌, ℕ, zero, suc, ◌+◌, ◌^◌, ◌≤◌, ◌<◌, Option, Some, None, Ok, Err}
+use Rattle.std.specs.Prelude.{◌≡◌, refl, List, [], ◌∷◌, ◌++◌, ℕ, ◌+◌, ◌^◌, ◌≤◌, ◌<◌, Option, Some, None, Ok, Err}
 use Rattle.std.specs.Fmt as lib
 use Rattle.std.proofs.Common.{sym, ap, ◌∙◌, append_assoc, append-nil, lt-ltb, le-ltb}
 use Rattle.laws.specs.Table.{tabulate}
 use Rattle.model.specs.declared.RouteStep.{RouteStep}
 use Rattle.model.specs.declared.Route.{Route}
 use Rattle.model.specs.declared.Refusal.{Refusal}
+use Rattle.model.specs.declared.Side.{Side}
 use Rattle.model.specs.Numbers.{number}
+use Rattle.model.specs.Cells.{side_number, side_at}
+use Rattle.model.specs.Sides.{number_side}
 use Rattle.model.specs.FlatSteps.{step_in, steps_in, no_steps_in, steps_in_more}
 use Rattle.model.specs.Calls.{Routed}
 use Rattle.model.specs.Hallroute.{side_letter, window_text, step_text, steps_text}
@@ -14,12 +17,9 @@ use Rattle.cards.specs.Decimal.{decimal_lem}
 use Rattle.cards.specs.Line.{route_text, routed_text, line_of}
 
 -- ---- letters
-pub letter : (n : ℕ) → (n ≡ 0 → ⊥) → (n ≡ 1 → ⊥) → (n ≡ 2 → ⊥) → 87 ∷ [] ≡ side_letter n
-unfolding tabulate
-letter zero e f g = absurd (e refl)
-letter (suc zero) e f g = absurd (f refl)
-letter (suc (suc zero)) e f g = absurd (g refl)
-letter (suc (suc (suc n))) e f g = refl
+-- by a side's number
+pub letter_at : {n k : ℕ} {side : Side} → n ≡ k → n < 4 → side ≡ side_at n → side_letter (side_number side) ≡ side_letter k
+letter_at {n} e l is = ap (λ (s : Side). side_letter (side_number s)) is ∙ ap side_letter (number_side n l ∙ e)
 
 -- ---- a step
 module _ (a : List ℕ) (s : RouteStep) where

@@ -1,6 +1,7 @@
 // The line of a pair: source and goal, then what the route call answered.
 ghost use Rattle.std.specs.Prelude.{◌≡◌, ◌++◌, ◌+◌, ◌*◌, ◌≤◌, length};
 ghost use Rattle.arrayvec.specs.ArrayString.{array_string_len};
+ghost use Rattle.model.specs.Cells.{side_number};
 ghost use Rattle.model.specs.FlatSteps.{steps_in};
 ghost use Rattle.model.specs.Calls.{routed_steps};
 ghost use Rattle.model.specs.Hallroute.{side_letter, window_text, step_text, steps_text};
@@ -8,17 +9,19 @@ ghost use Rattle.cards.specs.Line.{route_text, routed_text, line_of};
 
 use crate::numbers::push_number;
 use arrayvec::ArrayString;
+use fields::sides::SIDES;
 use fields::steps::step_in;
-use model::{Refusal, Route, RouteStep};
+use model::{Refusal, Route, RouteStep, Side};
 
-fn side_letter(side: u8) -> &'static str
-    ensures { (result.now ≡ side_letter side) × (length result.now ≡ 1) }
+#[tactic(auto, unfolding(laws::specs::Table::tabulate))]
+fn side_letter(side: Side) -> &'static str
+    ensures { (result.now ≡ side_letter (side_number side)) × (length result.now ≡ 1) }
 {
     match side {
-        0 => "N",
-        1 => "E",
-        2 => "S",
-        _ => "W",
+        Side::North => "N",
+        Side::East => "E",
+        Side::South => "S",
+        Side::West => "W",
     }
 }
 
@@ -28,11 +31,11 @@ fn push_window<const N: usize>(line: &mut ArrayString<N>, s: &RouteStep)
     ensures written { line.new.bytes ≡ line.old.bytes ++ window_text s.now }
     ensures short { array_string_len line.new ≤ array_string_len line.old + 8 }
 {
-    if 4 <= s.side {
+    let Some(side) = SIDES.get(usize::from(s.side)) else {
         line.push_str("-");
         return;
-    }
-    line.push_str(side_letter(s.side));
+    };
+    line.push_str(side_letter(*side));
     push_number(line, s.first);
     line.push_str("-");
     push_number(line, s.last);
