@@ -11,7 +11,7 @@ use model::{Refusal, Route};
 use route::find::find_path;
 
 // How many steps were found.
-fn steps_of(found: Option<Route>) -> usize
+pub fn steps_of(found: Option<Route>) -> usize
     ensures { result ≡ routed_steps (Ok found) }
 {
     found.map_or(0, |route| route.steps as usize)

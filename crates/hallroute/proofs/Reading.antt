@@ -2,7 +2,7 @@
 use mathlib.Core.Path.{◌≡◌, sym, ap, ◌∙◌}
 use mathlib.Core.Bool.{Bool, true, false}
 use mathlib.Core.List.{List}
-use Prim.Native.Nat.{ℕ, suc, ◌+◌, ◌*◌, ◌≤◌, ◌<◌}
+use Prim.Native.Nat.{ℕ, suc, ◌+◌, ◌*◌, ◌≤◌, ◌<◌, min}
 use native.Mathlib.Omega.{arith}
 use lib.Dec.{ltb}
 use lib.ListN.{length}
@@ -29,13 +29,9 @@ module _ (input : List ℕ) where
   size_head h = (rw (lt-ltb (length input) 5 h), omega arith)
 
   module _ {n : ℕ} (count : n ≡ u16_at input 3) (head : 5 ≤ length input) where
-    pub size_all : length input < 5 + 3 * n → (length input ≡ file_size input) × (length input ≤ length input)
+    pub size_counted : {size : ℕ} → size ≡ min (length input) (5 + 3 * n) → (size ≡ file_size input) × (size ≤ length input)
     unfolding file_size
-    size_all h = (rw (le-ltb (length input) 5 head) (omega arith), omega arith)
-
-    pub size_counted : 5 + 3 * n ≤ length input → (5 + 3 * n ≡ file_size input) × (5 + 3 * n ≤ length input)
-    unfolding file_size
-    size_counted h = (rw (le-ltb (length input) 5 head) (omega arith), h)
+    size_counted e = (e ∙ rw (le-ltb (length input) 5 head, ← count), omega (arith, e))
 
 -- ---- how many base costs it is read into
 either_number : (b : Bool) (n m : ℕ) → 0 < refuse b (suc n) (suc m)

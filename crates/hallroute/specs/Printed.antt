@@ -4,7 +4,7 @@ use Rattle.std.proofs.Common.{arith, sym, ◌∙◌, append-nil, length-append}
 use Rattle.std.proofs.Math.Path.{ap}
 use Rattle.std.proofs.Math.Bool.{false}
 use Rattle.std.proofs.Math.Dec.{ltb}
-use Rattle.std.proofs.Math.Seq.{drop-nil}
+use Rattle.std.proofs.Math.Seq.{drop-nil, take-append_seam, drop-append_seam}
 use borrow.Author.Tests.{lt-ltb, le-ltb}
 use Rattle.laws.specs.Search.{any}
 use Rattle.laws.specs.Ladder.{refuse}
@@ -133,8 +133,13 @@ first_four st (a ∷ b ∷ c ∷ d ∷ rest) =
     let four : min (suc (suc (suc (suc (length rest))))) 4 ≡ 4 = omega arith in
     rw (four, append-nil)
 
-pub first_pair : (st rest : List ℕ) {n : ℕ} {front back : List ℕ} → n ≡ min (length rest) 4 → front ≡ take n rest → back ≡ drop n rest → pair_lines st rest ≡ pair_lines st front ++ pair_lines st back
-first_pair st rest e f b = first_four st rest ∙ rw (f, b, e)
+-- the front is a pair, or all where that is less
+pub first_pair : (st front back : List ℕ) {rest : List ℕ} → rest ≡ front ++ back → length front ≡ min 4 (length rest) → pair_lines st rest ≡ pair_lines st front ++ pair_lines st back
+first_pair st front back {rest} all long =
+    let n : min (length rest) 4 ≡ length front = omega (arith, long) in
+    let f : take (length front) rest ≡ front = ap (take (length front)) all ∙ take-append_seam front back in
+    let b : drop (length front) rest ≡ back = ap (drop (length front)) all ∙ drop-append_seam front back in
+    first_four st rest ∙ rw (n, f, b)
 
 pub no_pair : (st rest : List ℕ) → length rest ≡ 0 → pair_lines st rest ≡ []
 unfolding pair_lines

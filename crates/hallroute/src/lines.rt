@@ -20,7 +20,7 @@ fn push_pair(
     steps: &mut [u8; 6006],
     line: &mut ArrayString<20100>,
 )
-    requires { (line.old.bytes ≡ []) }
+    requires { line.old.bytes ≡ [] }
     ensures { line.new.bytes ≡ pair_line st.now source goal }
 {
     let answer = route(st, source, goal, steps);

@@ -48,11 +48,8 @@ fn print_pairs<W: Write>(out: &mut W, st: &[u8], pairs: &[u8]) -> io::Result<()>
 {
     let mut steps = [0u8; 6006];
     let mut line = ArrayString::<20100>::new();
-    let mut rest = pairs;
-    while !rest.is_empty() {
-        let (pair, tail) = rest.split_at(rest.len().min(4));
+    for pair in pairs.chunks(4) {
         print_pair(out, st, pair, &mut steps, &mut line)?;
-        rest = tail;
     }
     Ok(())
 }

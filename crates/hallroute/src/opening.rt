@@ -18,11 +18,7 @@ pub fn file_size(input: &[u8]) -> usize
     if input.len() < 5 {
         return input.len();
     }
-    let size = 5 + 3 * usize::from(u16_at(input, 3));
-    if input.len() < size {
-        return input.len();
-    }
-    size
+    input.len().min(5 + 3 * usize::from(u16_at(input, 3)))
 }
 
 // How many base costs a file is read into. A floor has at most 10,000 cells; a file with more is refused for its columns or rows.

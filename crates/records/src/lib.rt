@@ -3,12 +3,12 @@
 
 ghost use Rattle.std.specs.Prelude.{◌≡◌, ◌++◌, ◌*◌, ◌≤◌, length, drop};
 ghost use Rattle.model.specs.FlatSteps.{steps_in};
-ghost use Rattle.model.specs.Calls.{routed_steps, route_steps};
+ghost use Rattle.model.specs.Calls.{route_steps};
 ghost use Rattle.model.specs.Answers.{RouteAnswers};
 ghost use Rattle.records.specs.Routing.{Flatly};
 
 use fields::steps::step_in;
-use hall_route::route;
+use hall_route::{route, steps_of};
 use model::{Refusal, Route, RouteStep};
 
 // The first n steps of a flat list go to the first n records; the others stay.
@@ -21,25 +21,14 @@ fn write_records(flat: &[u8], n: usize, list: &mut [RouteStep])
     }
 }
 
-// How many steps an answer has.
-fn steps_of(answer: Result<Option<Route>, Refusal>) -> usize
-    ensures { result ≡ routed_steps answer }
-{
-    match answer {
-        Ok(Some(route)) => route.steps as usize,
-        _ => 0,
-    }
-}
-
 // The route call for so many records, its steps in front of a flat list, which has room for the 1,001 that a route has at most.
 fn flat_route(
     st: &[u8],
     source: usize,
     goal: usize,
     records: usize,
-    flat: &mut [u8],
+    flat: &mut [u8; 6006],
 ) -> Result<Option<Route>, Refusal>
-    requires { length flat.old ≡ 6006 }
     ensures answer { RouteAnswers st.now source goal records result }
     ensures steps { Flatly st.now source goal records result flat.new }
 {
@@ -58,7 +47,7 @@ pub fn route_records(
     ensures steps { list.new ≡ route_steps st.now source goal list.old }
 {
     let mut flat = [0; 6006];
-    let answer = flat_route(st, source, goal, list.len(), &mut flat);
-    write_records(&flat, steps_of(answer), list);
-    answer
+    let found = flat_route(st, source, goal, list.len(), &mut flat)?;
+    write_records(&flat, steps_of(found), list);
+    Ok(found)
 }

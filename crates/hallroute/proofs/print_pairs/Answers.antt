@@ -1,21 +1,31 @@
 -- `print_pairs` prints one pair after the other.
-use Rattle.std.specs.Prelude.{List, ℕ, ◌≡◌, [], ◌++◌, length}
-use Rattle.std.proofs.Common.{refl, sym, ap, ◌∙◌, append_assoc, append-nil, eqb-true}
+use Rattle.std.specs.Prelude.{List, ℕ, [], ◌++◌}
+use Rattle.std.proofs.Common.{refl, sym, ap, ◌∙◌, append_assoc, append-nil, arith, rules}
+use Rattle.model.specs.Hallroute.{pair_lines}
 use Rattle.hallroute.specs.Printed.{first_pair, no_pair}
 use Rattle.hallroute.proofs.Printing.{appends_none, appends_more}
 use Rattle.hallroute.proofs.print_pairs.Goals as goal
 
-pub loop-rest-init : goal.loop-rest-init
-loop-rest-init g c = ([], appends_none _, refl)
+pub print_pair-requires : goal.print_pair-requires
+print_pair-requires g c = omega (arith, c.in-Some.ensures.steps.1.1, c.in-Some.ensures.steps.1.2, c.loop-pair.invariant.2)
 
-pub loop-rest-preserved : goal.loop-rest-preserved
-loop-rest-preserved g c =
-    let before = c.loop-rest.invariant in
-    let next = first_pair c.args.st.now c.loop-rest.rest.now c.min.ensures c.split_at.ensures.front c.split_at.ensures.back in
-    (_, appends_more _ _ _ _ _ before.1 c.in_ok-print_pair.ensures, before.2 ∙ ap (λ (t : List ℕ). before.0 ++ t) next ∙ sym (append_assoc before.0 _ _))
+pub loop-pair-init : goal.loop-pair-init
+loop-pair-init g c = (search rules, tt, search rules, [], appends_none _, ap (pair_lines c.args.st.now) (search rules))
+
+pub loop-pair-preserved : goal.loop-pair-preserved
+loop-pair-preserved g c =
+    let before = c.loop-pair.invariant in
+    let steps = c.in-Some.ensures.steps in
+    let next = first_pair c.args.st.now _ _ steps.1.0 (rw before.2 at steps.1.1) in (
+      search rules,
+      tt,
+      steps.0 ∙ before.2,
+      _,
+      appends_more _ _ _ _ _ before.4 c.in_ok-print_pair.ensures,
+      before.5 ∙ ap (λ (t : List ℕ). before.3 ++ t) next ∙ sym (append_assoc before.3 _ _),
+    )
 
 pub returns : goal.returns
 returns g c =
-    let before = c.loop-rest.invariant in
-    let over : length c.loop-rest.rest.now ≡ 0 = eqb-true _ _ (sym c.loop-rest-test.ensures) in
-    rw (before.2, no_pair c.args.st.now c.loop-rest.rest.now over, append-nil) before.1
+    let before = c.loop-pair.invariant in
+    rw (before.5, no_pair c.args.st.now _ c.in-None.ensures.steps.1.0, append-nil) before.4

@@ -9,6 +9,6 @@ use Rattle.records.proofs.flat_route.Goals as goal
 pub returns : goal.returns
 returns c =
     let both = flatly c.args.st.now c.args.source c.args.goal _ _ c.min-bytes.ensures
-    (omega (arith, length-take (6 * c.min-bytes.result) c.args.flat.now, c.min-bytes.ensures, c.requires)) c.route.ensures.answer
+    (omega (arith, length-take (6 * c.min-bytes.result) c.args.flat.now, c.min-bytes.ensures, c.told-flat)) c.route.ensures.answer
     c.route.ensures.steps refl in
     record { answer = both.0; steps = both.1 }
