@@ -1,6 +1,4 @@
 // Halls: a hall file is read into base costs and built in a store, costs are changed, windows are listed, and routes are found.
-ghost use Rattle.std.specs.Prelude.{◌<◌};
-
 use crate::plans::print_measured;
 use fields::sectors::cells;
 use hall::build::build;
@@ -15,20 +13,11 @@ use std::io::{Read, Write};
 // The largest prime below 2 to the 32nd.
 const PRIME: u64 = 4294967291;
 
-fn mixed(sum: u64, byte: u8) -> u64
-    requires { sum < 4294967291 }
-    ensures { result < 4294967291 }
-{
-    (sum * 65537 + u64::from(byte)) % PRIME
-}
-
 // All bytes of a list as one number.
-fn sum(bytes: &[u8]) -> u64 {
-    let mut sum = 0;
-    for byte in bytes {
-        sum = mixed(sum, *byte);
-    }
-    sum
+fn sum(bytes: &[u8]) -> u32 {
+    bytes.iter().fold(0, |sum: u32, byte| {
+        ((u64::from(sum) * 65537 + u64::from(*byte)) % PRIME) as u32
+    })
 }
 
 // The end of a line: the bytes that were lent, as one number.
@@ -84,10 +73,7 @@ fn read_hall<W: Write>(
     write!(out, "file of {} bytes", file.len())?;
     print_measured(out, answer)?;
     print_lent(out, base)?;
-    match answer {
-        Ok(m) => build_hall(out, m, base, store),
-        Err(_) => Ok(()),
-    }
+    answer.map_or(Ok(()), |m| build_hall(out, m, base, store))
 }
 
 // An entry: the length of a hall file in two bytes, then the file.
