@@ -1,6 +1,6 @@
 -- `print_pairs` prints one pair after the other.
 use Rattle.std.specs.Prelude.{List, ℕ, [], ◌++◌}
-use Rattle.std.proofs.Common.{refl, sym, ap, ◌∙◌, append_assoc, append-nil, arith, rules}
+use Rattle.std.proofs.Common.{sym, ap, ◌∙◌, append_assoc, append-nil, arith, rules}
 use Rattle.model.specs.Hallroute.{pair_lines}
 use Rattle.hallroute.specs.Printed.{first_pair, no_pair}
 use Rattle.hallroute.proofs.Printing.{appends_none, appends_more}
