@@ -6,7 +6,7 @@ use hall::change::change;
 use hall::windows::windows;
 use hall_file::read::read_file;
 use hall_route::route;
-use model::{Measures, Refusal};
+use model::{Measures, number_of};
 use std::io;
 use std::io::{Read, Write};
 
@@ -23,14 +23,6 @@ fn sum(bytes: &[u8]) -> u32 {
 // The end of a line: the bytes that were lent, as one number.
 fn print_lent<W: Write>(out: &mut W, bytes: &[u8]) -> io::Result<()> {
     writeln!(out, ", lent {}", sum(bytes))
-}
-
-// A call's number, 0 where it is not refused.
-fn number(answer: Result<(), Refusal>) -> u8 {
-    match answer {
-        Ok(()) => 0,
-        Err(refusal) => refusal.number(),
-    }
 }
 
 fn read_u8<R: Read>(input: &mut R) -> io::Result<u8> {
@@ -59,7 +51,7 @@ fn room(file: &[u8]) -> usize {
 
 fn build_hall<W: Write>(out: &mut W, m: Measures, base: &[u8], store: &mut [u8]) -> io::Result<()> {
     let answer = build(m.columns, m.rows, m.scale, base, store);
-    write!(out, "build is {}", number(answer))?;
+    write!(out, "build is {}", number_of(answer))?;
     print_lent(out, store)
 }
 
@@ -100,7 +92,7 @@ pub fn replay_change<R: Read, W: Write>(
     let n = usize::from(read_u16(input)?);
     let cost = read_u8(input)?;
     let answer = change(store, n, cost);
-    write!(out, "change of {n} to {cost} is {}", number(answer))?;
+    write!(out, "change of {n} to {cost} is {}", number_of(answer))?;
     print_lent(out, store)
 }
 

@@ -2,7 +2,6 @@
 #![tactic(auto)]
 
 ghost use Rattle.std.specs.Prelude.{◌≡◌, ◌/◌, length};
-ghost use Rattle.model.specs.Numbers.{number_of};
 ghost use Rattle.model.specs.Store.{measures_at, decode, file_in};
 ghost use Rattle.model.specs.Route.{route_of};
 ghost use Rattle.model.specs.Calls.{plan_number, plan_measures, read_number, read_into, measures_of, build_number, build_into, check_number, change_number, change_into, route_number, route_flat, windows_of, windows_number, windows_flat, write_number, write_into};
@@ -16,7 +15,7 @@ use hall_file::read::read_file;
 use hall_file::write::write_file;
 use hall_plan::plan;
 use hall_route::route;
-use model::{Dimensions, Measures, Refusal, Route};
+use model::{Dimensions, Measures, Refusal, Route, number_of};
 
 // What plan and read file answer: its number, and the measures, which are 0 where it is a refusal.
 #[repr(C)]
@@ -130,16 +129,6 @@ impl From<Result<u32, Refusal>> for FileAnswer {
     }
 }
 
-// The number of an answer, without what it gives.
-fn number<T: Drop>(answer: Result<T, Refusal>) -> u8
-    ensures { result ≡ number_of answer }
-{
-    match answer {
-        Ok(_) => 0,
-        Err(refusal) => refusal.number(),
-    }
-}
-
 // The version of include/hall.h that these calls are declared in.
 #[unsafe(no_mangle)]
 pub extern "C" fn hall_version() -> u32
@@ -177,7 +166,7 @@ pub extern "C" fn hall_build(columns: u8, rows: u8, scale: u8, base: &[u8], stor
     ensures answer { result ≡ build_number (measures_of columns rows scale) base.now store.old }
     ensures built { store.new ≡ build_into (measures_of columns rows scale) base.now store.old }
 {
-    number(build(columns, rows, scale, base, store))
+    number_of(build(columns, rows, scale, base, store))
 }
 
 // The number of the first refusal that applies to a store, or 0.
@@ -185,7 +174,7 @@ pub extern "C" fn hall_build(columns: u8, rows: u8, scale: u8, base: &[u8], stor
 pub extern "C" fn hall_check_store(store: &[u8]) -> u8
     ensures { result ≡ check_number store.now }
 {
-    number(check_store(store))
+    number_of(check_store(store))
 }
 
 // Changes the cost of a cell of the hall in a lent store.
@@ -194,7 +183,7 @@ pub extern "C" fn hall_change(store: &mut [u8], floor_number: usize, cost: u8) -
     ensures answer { result ≡ change_number store.old floor_number cost }
     ensures changed { store.new ≡ change_into store.old floor_number cost }
 {
-    number(change(store, floor_number, cost))
+    number_of(change(store, floor_number, cost))
 }
 
 // Finds the route from one cell to another, its steps six bytes each: column, row, goal, side, first and last cell.

@@ -3,7 +3,7 @@
 #![tactic(auto)]
 
 ghost use Rattle.std.specs.Prelude.{◌≡◌, [], ◌∷◌};
-ghost use Rattle.model.specs.Numbers.{number};
+ghost use Rattle.model.specs.Numbers.{number, number_of};
 ghost use Rattle.model.specs.Steps.{step_bytes};
 
 // Item 1: a cell of a sector, column and row 0 to 9.
@@ -194,6 +194,16 @@ impl Refusal {
         ensures { result ≡ number self }
     {
         self as u8
+    }
+}
+
+// The number of an answer, which is 0 where it is not refused, without what it gives.
+pub fn number_of<T: Drop>(answer: Result<T, Refusal>) -> u8
+    ensures { result ≡ number_of answer }
+{
+    match answer {
+        Ok(_) => 0,
+        Err(refusal) => refusal.number(),
     }
 }
 
