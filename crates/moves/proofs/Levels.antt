@@ -5,58 +5,54 @@ use native.Mathlib.Omega.{arith}
 use mathlib.Core.Path.{◌≡◌, refl, sym, ap, ◌∙◌}
 use mathlib.Core.Logic.{◌⊎◌, inl, inr}
 use mathlib.Core.Bool.{Bool, true, false}
-use mathlib.Core.List.{List}
-use Rattle.std.specs.Prelude.{Some, None}
+use mathlib.Core.List.{List, []}
+use Rattle.std.specs.Bool.{then_some}
 use lib.Dec.{ltb, eqb}
 use lib.ListN.{length, get_or, set, length-set}
 use lib.Seq.{ext_get_or, get_or-set_same, get_or-set_other}
-use borrow.Author.Tests.{lt-ltb, le-ltb, eqb-true, eq-eqb, ne_eqb}
+use borrow.Author.Tests.{lt-ltb, ltb-true, le-ltb, eqb-true, eq-eqb}
 use Rattle.laws.specs.Fold.{pick}
 use Rattle.laws.specs.Graph.{below_or}
-use Rattle.laws.specs.Table.{tabulate, length_tabulate, tabulate_at, get_or_default}
+use Rattle.laws.specs.Table.{tabulate, length_tabulate, tabulate_at}
 use Rattle.model.specs.declared.Side.{Side}
 use Rattle.model.specs.declared.Side.TheVariants.{North, East, South, West}
 use Rattle.model.specs.Cells.{beside}
 use Rattle.model.specs.Costs.{open_at}
 use Rattle.model.specs.Moves.{moves}
-use Rattle.moves.specs.Levels.{spot, open_words, first_word, word_at, Grown, cell_bit, missing, moves_by, moves_in, moves_or_none}
+use Rattle.moves.specs.Levels.{spot, open_words, first_word, first_level, grown_word, grown, word_at, cell_bit, missing, moves_by, moves_in, moves_or_none}
 use Rattle.moves.proofs.Bits.{bit_at, none_bit, cut_bit, own_bit, other_bit}
 use Rattle.moves.proofs.Words.{Out, from_other, one_spot, cells_out, open_yes, open_no, side_bit, side_there, side_none, grown_bit, grown_only, NextBit, by_side}
 use Rattle.moves.proofs.Steps.{far, far_start, far_capped, far_none, far_blocked, far_open, far_before, far_next, far_still, far_few, moves_long}
 
 -- ---- levels
 -- level d has exactly the cells with at most d moves
-pub record Level (far : ℕ → ℕ) (l : List ℕ) (d : ℕ) : Type 0 where
+pub record Level (far : ℕ → ℕ) (l : List (List ℕ)) (d : ℕ) : Type 0 where
   pub out : (h k : ℕ) → h < 2 → Out k → bit_at (word_at l d h) k ≡ 0
   pub yes : (i : ℕ) → i < 100 → far i ≤ d → cell_bit l d i ≡ 1
   pub no : (i : ℕ) → i < 100 → d < far i → cell_bit l d i ≡ 0
 
-pub record Levels (far : ℕ → ℕ) (l : List ℕ) (n : ℕ) : Type 0 where
-  pub long : length l ≡ 202
+pub record Levels (far : ℕ → ℕ) (l : List (List ℕ)) (n : ℕ) : Type 0 where
+  pub long : length l ≡ 101
   pub each : (d : ℕ) → d < n → Level far l d
 
-level_kept : {far : ℕ → ℕ} {l₀ l : List ℕ} {d : ℕ} → Level far l₀ d → ((k : ℕ) → k < d * 2 + 2 → get_or l k 0 ≡ get_or l₀ k 0) → Level far l d
+level_kept : {far : ℕ → ℕ} {l₀ l : List (List ℕ)} {d : ℕ} → Level far l₀ d → get_or l d [] ≡ get_or l₀ d [] → Level far l d
 level_kept {far} {l₀} {l} {d} v kept = record {
-  out = λ h k m o. ap (λ (n : ℕ). bit_at n k) (kept (d * 2 + h) (omega arith)) ∙ v.out h k m o;
-  yes = λ i h m. same i h ∙ v.yes i h m;
-  no = λ i h m. same i h ∙ v.no i h m;
+  out = λ h k m o. ap (λ (level : List ℕ). bit_at (get_or level h 0) k) kept ∙ v.out h k m o;
+  yes = λ i h m. same i ∙ v.yes i h m;
+  no = λ i h m. same i ∙ v.no i h m;
 }
   where
-    same : (i : ℕ) → i < 100 → cell_bit l d i ≡ cell_bit l₀ d i
-    same i h = ap (λ (n : ℕ). bit_at n (spot i)) (kept (d * 2 + i / 50) (omega arith))
+    same : (i : ℕ) → cell_bit l d i ≡ cell_bit l₀ d i
+    same i = ap (λ (level : List ℕ). bit_at (get_or level (i / 50) 0) (spot i)) kept
 
 -- ---- the first level
-module _ (costs : List ℕ) (from : ℕ) (low : from < 100) (l₀ : List ℕ) {l : List ℕ} (long : length l₀ ≡ 202) (is : l ≡ set (set l₀ 0 (first_word from 0)) 1 (first_word from 1)) where
-  first_at : (h : ℕ) → h < 2 → get_or l (0 * 2 + h) 0 ≡ first_word from h
-  first_at h m = go (below_or h 1)
-    where
-      go : (h < 1) ⊎ (1 ≤ h) → get_or l (0 * 2 + h) 0 ≡ first_word from h
-      go (inl a) =
-          let z : h ≡ 0 = omega arith in
-          rw (is, z) (get_or-set_other (set l₀ 0 (first_word from 0)) 1 0 (first_word from 1) 0 (λ q. omega arith) ∙ get_or-set_same l₀ 0 (first_word from 0) 0 (omega arith))
-      go (inr a) =
-          let z : h ≡ 1 = omega arith in
-          rw (is, z) (get_or-set_same (set l₀ 0 (first_word from 0)) 1 (first_word from 1) 0 (omega (arith, length-set l₀ 0 (first_word from 0))))
+module _ (costs : List ℕ) (from : ℕ) (low : from < 100) (l₀ : List (List ℕ)) (long : length l₀ ≡ 101) where
+  abbrev begun : List (List ℕ)
+  begun = set l₀ 0 (first_level from)
+
+  first_at : (h : ℕ) → h < 2 → word_at begun 0 h ≡ first_word from h
+  unfolding first_level
+  first_at h m = ap (λ (level : List ℕ). get_or level h 0) (get_or-set_same l₀ 0 (first_level from) [] (omega arith)) ∙ tabulate_at (first_word from) 2 h 0 m
 
   first_own : bit_at (first_word from (from / 50)) (spot from) ≡ 1
   unfolding first_word
@@ -70,14 +66,14 @@ module _ (costs : List ℕ) (from : ℕ) (low : from < 100) (l₀ : List ℕ) {l
       go true e = other_bit (spot from) k (λ q. n (eqb-true h (from / 50) e) (sym q))
       go false e = none_bit k
 
-  level_first : Level (far costs from) l 0
+  level_first : Level (far costs from) begun 0
   level_first = record {
     out = λ h k m o. ap (λ (n : ℕ). bit_at n k) (first_at h m) ∙ first_other h k (λ a e. away k o e);
     yes = λ i h m. let z : i ≡ from = far_none costs from low i h (omega arith) in bit_is i h ∙ ap (λ (k : ℕ). bit_at (first_word from (k / 50)) (spot k)) z ∙ first_own;
     no = λ i h m. bit_is i h ∙ first_other (i / 50) (spot i) (λ a e. omega (arith, far_start costs from low, ap (λ (k : ℕ). far costs from k) (one_spot i from a e)));
   }
     where
-      bit_is : (i : ℕ) → i < 100 → cell_bit l 0 i ≡ bit_at (first_word from (i / 50)) (spot i)
+      bit_is : (i : ℕ) → i < 100 → cell_bit begun 0 i ≡ bit_at (first_word from (i / 50)) (spot i)
       bit_is i h = ap (λ (n : ℕ). bit_at n (spot i)) (first_at (i / 50) (omega arith))
 
       away : (k : ℕ) → Out k → k ≡ spot from → ⊥
@@ -87,15 +83,28 @@ module _ (costs : List ℕ) (from : ℕ) (low : from < 100) (l₀ : List ℕ) {l
           off y x a b (inl c) e = omega arith
           off y x a b (inr c) e = omega arith
 
-  pub levels_first : Levels (far costs from) l 1
+  pub levels_first : Levels (far costs from) begun 1
   levels_first = record {
-    long = ap length is ∙ length-set (set l₀ 0 (first_word from 0)) 1 (first_word from 1) ∙ length-set l₀ 0 (first_word from 0) ∙ long;
+    long = length-set l₀ 0 (first_level from) ∙ long;
     each = λ d h. let z : d ≡ 0 = omega arith in rw z level_first;
   }
 
 -- ---- the next level
-module _ (costs : List ℕ) (from : ℕ) (low : from < 100) (start : open_at costs from ≡ true) {words : List ℕ} (given : words ≡ open_words costs) {l₀ l : List ℕ} {d : ℕ} {grew : Bool} (few : d < 100)
-    (g : Grown words d l₀ l grew) (all : Levels (far costs from) l₀ (d + 1)) where
+module _ (costs : List ℕ) (from : ℕ) (low : from < 100) (start : open_at costs from ≡ true) {words : List ℕ} (given : words ≡ open_words costs) {l₀ : List (List ℕ)} {d : ℕ} (few : d < 100) (all : Levels (far costs from) l₀ (d + 1)) where
+  abbrev l : List (List ℕ)
+  l = set l₀ (d + 1) (grown words (get_or l₀ d []))
+
+  grown_at : get_or l (d + 1) [] ≡ grown words (get_or l₀ d [])
+  grown_at = get_or-set_same l₀ (d + 1) (grown words (get_or l₀ d [])) [] (omega (arith, all.long))
+
+  upper : word_at l (d + 1) 0 ≡ grown_word (get_or words 0 0) (word_at l₀ d 0) (word_at l₀ d 1 * 2 ^ 44 % 2 ^ 64)
+  unfolding grown
+  upper = ap (λ (level : List ℕ). get_or level 0 0) grown_at
+
+  lower : word_at l (d + 1) 1 ≡ grown_word (get_or words 1 0) (word_at l₀ d 1) (word_at l₀ d 0 / 2 ^ 44)
+  unfolding grown
+  lower = ap (λ (level : List ℕ). get_or level 1 0) grown_at
+
   level : Level (far costs from) l₀ d
   level = all.each d (omega arith)
 
@@ -110,11 +119,11 @@ module _ (costs : List ℕ) (from : ℕ) (low : from < 100) (start : open_at cos
         go (inl a) =
             let half : i / 50 ≡ 0 = omega arith in
             let b = grown_bit (get_or words 0 0) (word_at l₀ d 0) (word_at l₀ d 1 * 2 ^ 44 % 2 ^ 64) (spot i) fits in
-            rw (half, g.upper) (by_side (from_other l₀ d 11 0 (spot i)) b (cut_bit (word_at l₀ d 1 * 2 ^ 44) (spot i) fits ∙ sym (zero-add (bit_at (word_at l₀ d 1 * 2 ^ 44) (spot i)))))
+            rw (half, upper) (by_side (from_other l₀ d 11 0 (spot i)) b (cut_bit (word_at l₀ d 1 * 2 ^ 44) (spot i) fits ∙ sym (zero-add (bit_at (word_at l₀ d 1 * 2 ^ 44) (spot i)))))
         go (inr a) =
             let half : i / 50 ≡ 1 = omega arith in
             let b = grown_bit (get_or words 1 0) (word_at l₀ d 1) (word_at l₀ d 0 / 2 ^ 44) (spot i) fits in
-            rw (half, g.lower) (by_side (from_other l₀ d 11 1 (spot i)) b (sym (add-zero (bit_at (word_at l₀ d 0 / 2 ^ 44) (spot i)))))
+            rw (half, lower) (by_side (from_other l₀ d 11 1 (spot i)) b (sym (add-zero (bit_at (word_at l₀ d 0 / 2 ^ 44) (spot i)))))
 
     -- a cell with at most d + 1 moves
     next_yes : far costs from i ≤ d + 1 → cell_bit l (d + 1) i ≡ 1
@@ -160,29 +169,29 @@ module _ (costs : List ℕ) (from : ℕ) (low : from < 100) (start : open_at cos
       go : (h < 1) ⊎ (1 ≤ h) → bit_at (word_at l (d + 1) h) k ≡ 0
       go (inl a) =
           let z : h ≡ 0 = omega arith in
-          rw (z, g.upper) (omega (arith, grown_only (get_or words 0 0) (word_at l₀ d 0) (word_at l₀ d 1 * 2 ^ 44 % 2 ^ 64) k, cells_out costs given 0 k (omega arith) o))
+          rw (z, upper) (omega (arith, grown_only (get_or words 0 0) (word_at l₀ d 0) (word_at l₀ d 1 * 2 ^ 44 % 2 ^ 64) k, cells_out costs given 0 k (omega arith) o))
       go (inr a) =
           let z : h ≡ 1 = omega arith in
-          rw (z, g.lower) (omega (arith, grown_only (get_or words 1 0) (word_at l₀ d 1) (word_at l₀ d 0 / 2 ^ 44) k, cells_out costs given 1 k (omega arith) o))
+          rw (z, lower) (omega (arith, grown_only (get_or words 1 0) (word_at l₀ d 1) (word_at l₀ d 0 / 2 ^ 44) k, cells_out costs given 1 k (omega arith) o))
 
-  levels_more : Levels (far costs from) l (d + 1 + 1)
-  levels_more = record { long = g.long ∙ all.long; each = λ e h. go e (below_or e (d + 1)) h }
+  pub levels_more : Levels (far costs from) l (d + 1 + 1)
+  levels_more = record { long = length-set l₀ (d + 1) (grown words (get_or l₀ d [])) ∙ all.long; each = λ e h. go e (below_or e (d + 1)) h }
     where
       go : (e : ℕ) → (e < d + 1) ⊎ (d + 1 ≤ e) → e < d + 1 + 1 → Level (far costs from) l e
-      go e (inl k) h = level_kept (all.each e k) (λ n m. g.before n (omega arith))
+      go e (inl k) h = level_kept (all.each e k) (get_or-set_other l₀ (d + 1) e (grown words (get_or l₀ d [])) [] (λ q. omega arith))
       go e (inr k) h = let z : e ≡ d + 1 = omega arith in rw z (record { out = next_out; yes = next_yes; no = next_no })
 
   -- where it is level d, no cell has d + 1 moves
-  whole_still : grew ≡ false → (i : ℕ) → i < 100 → far costs from i < 255 → far costs from i < d + 1
+  whole_still : grown words (get_or l₀ d []) ≡ get_or l₀ d [] → (i : ℕ) → i < 100 → far costs from i < 255 → far costs from i < d + 1
   whole_still z i h m = let most : far costs from i ≤ d = far_still costs from low d none i h m in omega arith
     where
       none : (j : ℕ) → j < 100 → far costs from j ≡ d + 1 → ⊥
       none j b e =
-          let same : cell_bit l (d + 1) j ≡ cell_bit l₀ d j = ap (λ (n : ℕ). bit_at n (spot j)) (g.still z (j / 50) (omega arith)) in
+          let same : cell_bit l (d + 1) j ≡ cell_bit l₀ d j = ap (λ (level : List ℕ). bit_at (get_or level (j / 50) 0) (spot j)) (grown_at ∙ z) in
           omega (arith, same, next_yes j b (omega arith), level.no j b (omega arith))
 
 -- ---- what the levels tell
-module _ (costs : List ℕ) (from : ℕ) (low : from < 100) {l : List ℕ} {n : ℕ} (all : Levels (far costs from) l n) (whole : (i : ℕ) → i < 100 → far costs from i < 255 → far costs from i < n) where
+module _ (costs : List ℕ) (from : ℕ) (low : from < 100) {l : List (List ℕ)} {n : ℕ} (all : Levels (far costs from) l n) (whole : (i : ℕ) → i < 100 → far costs from i < 255 → far costs from i < n) where
   -- the levels that lack a cell are those below its moves
   missing_is : (i k : ℕ) → i < 100 → k ≤ n → (far costs from i < k → missing l k i ≡ far costs from i) × (k ≤ far costs from i → missing l k i ≡ k)
   unfolding missing
@@ -214,48 +223,29 @@ module _ (costs : List ℕ) (from : ℕ) (low : from < 100) {l : List ℕ} {n : 
       ext_get_or 0 (tabulate (moves_by l n) 100 0) (moves costs from) (length_tabulate (moves_by l n) 100 0 ∙ sym (moves_long costs from low))
       (λ i h. let b : i < 100 = omega (arith, length_tabulate (moves_by l n) 100 0) in tabulate_at (moves_by l n) 100 i 0 b ∙ by_is i b)
 
--- ---- as `moves_at` reads them
-module _ (l : List ℕ) (n i : ℕ) (low : i < 100) {k : ℕ} (is : k ≡ missing l n i) where
-  told_at : get_or (moves_in l n) i 0 ≡ moves_by l n i
-  unfolding moves_in
-  told_at = tabulate_at (moves_by l n) 100 i 0 low
+-- as `moves_at` reads them
+pub told_at : (l : List (List ℕ)) (n i : ℕ) → i < 100 → n ≤ 101 → then_some (ltb (missing l n i) n) (missing l n i) ≡ moves_or_none (get_or (moves_in l n) i 0)
+unfolding moves_in moves_by
+told_at l n i low few = rw (tabulate_at (moves_by l n) 100 i 0 low) (go (ltb (missing l n i) n) refl)
+  where
+    go : (t : Bool) → ltb (missing l n i) n ≡ t → then_some t (missing l n i) ≡ moves_or_none (pick t (missing l n i) 255)
+    go true e = rw (lt-ltb (missing l n i) 255 (omega (arith, ltb-true (missing l n i) n e))) refl
+    go false e = refl
 
-  pub told_some : n ≤ 101 → k < n → Some k ≡ moves_or_none (get_or (moves_in l n) i 0)
-  unfolding moves_by
-  told_some few h = rw (told_at, ← is, lt-ltb k n h, lt-ltb k 255 (omega arith)) refl
-
-  pub told_none : n ≤ k → None ≡ moves_or_none (get_or (moves_in l n) i 0)
-  unfolding moves_by
-  told_none h = rw (told_at, ← is, le-ltb k n h) refl
-
--- ---- as `spread` meets them
-start_open : (costs : List ℕ) (from : ℕ) → from < length costs → (get_or costs from 0 ≡ 255 → ⊥) → open_at costs from ≡ true
-unfolding open_at
-start_open costs from h n = rw (get_or_default costs from 255 0 h, ne_eqb (get_or costs from 0) 255 n)
-
-start_shut : (costs : List ℕ) (from : ℕ) → from < length costs → get_or costs from 0 ≡ 255 → open_at costs from ≡ false
-unfolding open_at
-start_shut costs from h e = rw (get_or_default costs from 255 0 h, eq-eqb (get_or costs from 0) 255 e)
-
-module _ (costs : List ℕ) (from : ℕ) (long : length costs ≡ 100) (low : from < 100) {l : List ℕ} where
+-- ---- as `fill` meets them
+module _ (costs : List ℕ) (from : ℕ) (low : from < 100) {l : List (List ℕ)} where
   -- from a blocked cell
-  pub spread_blocked : get_or costs from 0 ≡ 255 → Levels (far costs from) l 1 → moves_in l 1 ≡ moves costs from
-  spread_blocked e all = told costs from low all (λ i h m. whole i (far_blocked costs from low (start_shut costs from (omega arith) e) i h m))
+  pub filled_blocked : open_at costs from ≡ false → Levels (far costs from) l 1 → moves_in l 1 ≡ moves costs from
+  filled_blocked shut all = told costs from low all (λ i h m. whole i (far_blocked costs from low shut i h m))
     where
       whole : (i : ℕ) → i ≡ from → far costs from i < 1
       whole i z = omega (arith, far_start costs from low, ap (λ (k : ℕ). far costs from k) z)
 
   -- with a level for each count of moves that there can be
-  pub spread_last : Levels (far costs from) l 101 → moves_in l 101 ≡ moves costs from
-  spread_last all = told costs from low all (λ i h m. omega (arith, far_few costs from low i h m))
+  pub filled_last : Levels (far costs from) l 101 → moves_in l 101 ≡ moves costs from
+  filled_last all = told costs from low all (λ i h m. omega (arith, far_few costs from low i h m))
 
-  module _ (n : get_or costs from 0 ≡ 255 → ⊥) {words : List ℕ} (given : words ≡ open_words costs) {l₀ : List ℕ} {d : ℕ} {grew : Bool} (few : d < 100) (g : Grown words d l₀ l grew)
-      (all : Levels (far costs from) l₀ (d + 1)) where
-    pub spread_more : Levels (far costs from) l (d + 1 + 1)
-    spread_more = levels_more costs from low (start_open costs from (omega arith) n) given few g all
-
-    -- with a level that is the one before
-    pub spread_still : grew ≡ false → moves_in l (d + 1) ≡ moves costs from
-    spread_still z =
-        told costs from low (record { long = spread_more.long; each = λ e h. spread_more.each e (omega arith) })
-        (whole_still costs from low (start_open costs from (omega arith) n) given few g all z)
+  -- with a level whose next is the same
+  pub filled_still : open_at costs from ≡ true → {words : List ℕ} → words ≡ open_words costs → {d : ℕ} → d < 100 → Levels (far costs from) l (d + 1)
+      → grown words (get_or l d []) ≡ get_or l d [] → moves_in l (d + 1) ≡ moves costs from
+  filled_still start given few all z = told costs from low all (whole_still costs from low start given few all z)

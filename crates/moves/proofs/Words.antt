@@ -1,17 +1,14 @@
 -- A sector's cells as two words of bits: the bits of cells beside each other, the open cells, and a word that grows by the cells beside its own.
 use Prim.Native.Nat.{ℕ, zero, suc, ◌+◌, ◌-◌, ◌*◌, ◌/◌, ◌%◌, ◌^◌, ◌≤◌, ◌<◌}
-use native.Mathlib.Nat.{add-zero}
 use native.Mathlib.Numerals.{add-one}
 use native.Mathlib.Omega.{arith}
 use mathlib.Core.Path.{◌≡◌, refl, sym, ap, ap₂, ◌∙◌}
 use mathlib.Core.Logic.{◌⊎◌, inl, inr}
-use mathlib.Core.Bool.{Bool, true, false, not}
+use mathlib.Core.Bool.{true, false}
 use mathlib.Core.List.{List}
-use lib.Bits.{bit_or, bit_xor}
-use lib.Dec.{eqb}
-use lib.ListN.{length, get_or, set, length-set}
+use lib.Bits.{bit_or}
+use lib.ListN.{get_or}
 use lib.Pow.{shl_exact}
-use lib.Seq.{get_or-set_same, get_or-set_other}
 use borrow.Author.Tests.{eqb-true, eqb-false}
 use Rattle.laws.specs.Graph.{below_or}
 use Rattle.laws.specs.Table.{table_at}
@@ -23,8 +20,8 @@ use Rattle.model.specs.CellSides.{cell_on, beside_over, beside_none}
 use Rattle.model.specs.Costs.{open_at}
 use Rattle.model.specs.Windows.{is_open}
 use Rattle.model.specs.WindowRuns.{bits_small, bits_open}
-use Rattle.moves.specs.Levels.{spot, packed, open_row, open_word, open_words, around, grown_word, word_at, Grown, cell_bit}
-use Rattle.moves.proofs.Bits.{bit_at, and_bit, or_bit, none_bit, down_bit, up_bit, up_low, cut_bit, high_bit, or_none, xor_none}
+use Rattle.moves.specs.Levels.{spot, packed, open_row, open_word, open_words, around, grown_word, word_at, cell_bit}
+use Rattle.moves.proofs.Bits.{bit_at, and_bit, or_bit, none_bit, down_bit, up_bit, up_low, cut_bit, high_bit}
 
 -- a bit that no cell has: the last of a row, and past the rows
 abbrev pub Out : ℕ → Type 0
@@ -135,7 +132,7 @@ shifted Lower u word = word * 2 ^ u
 shifted Higher u word = word / 2 ^ u
 
 -- the bit that comes to bit s of half h from the other half, where a word has 55 bits
-abbrev pub from_other : List ℕ → ℕ → ℕ → ℕ → ℕ → Sense → ℕ
+abbrev pub from_other : List (List ℕ) → ℕ → ℕ → ℕ → ℕ → Sense → ℕ
 from_other l d u zero s Lower = 0
 from_other l d u (suc h) s Lower = bit_at (word_at l d 0 / 2 ^ (55 - u)) s
 from_other l d u zero s Higher = bit_at (word_at l d 1 * 2 ^ (55 - u)) s
@@ -150,7 +147,7 @@ over Row n = n
 abbrev pub sides : ℕ → ℕ → (Sense → ℕ) → Side → ℕ
 sides word s from k = bit_at (shifted (sense k) (reach (axis k)) word) s + over (axis k) (from (sense k))
 
-abbrev pub side_bit : List ℕ → ℕ → ℕ → Side → ℕ
+abbrev pub side_bit : List (List ℕ) → ℕ → ℕ → Side → ℕ
 side_bit l d i = sides (word_at l d (i / 50)) (spot i) (from_other l d 11 (i / 50) (spot i))
 
 -- a level is a line of 110 bits, and this is where a cell stands on it
@@ -204,7 +201,7 @@ line_end West i l e = go (below_or (on_line i) 1)
     go (inl a) = inl a
     go (inr a) = inr (on_line i - 1, omega arith, omega arith, omega arith)
 
-module _ (l : List ℕ) (d : ℕ) (out : (h k : ℕ) → h < 2 → Out k → bit_at (word_at l d h) k ≡ 0) where
+module _ (l : List (List ℕ)) (d : ℕ) (out : (h k : ℕ) → h < 2 → Out k → bit_at (word_at l d h) k ≡ 0) where
   line_bit : ℕ → ℕ
   line_bit p = bit_at (word_at l d (p / 55)) (p % 55)
 
@@ -354,7 +351,7 @@ by_side from b e = record { only = b.only; some = omega (arith, b.some); kept = 
     part Row Lower = omega arith
     part Row Higher = omega arith
 
--- ---- as `open_word` and `grow` make them
+-- ---- as `open_word` makes them
 pub packed_none : (row : ℕ → ℕ) → 0 ≡ packed row 0
 unfolding packed
 packed_none row = refl
@@ -362,38 +359,3 @@ packed_none row = refl
 pub packed_more : (row : ℕ → ℕ) (y : ℕ) {word r : ℕ} → word ≡ packed row y → r ≡ row y → row y < 1024 → y < 5 → bit_or word (r * 2 ^ (y * 11) % 2 ^ 64) ≡ packed row (y + 1)
 unfolding packed
 packed_more row y e f small l = rw (add-one y, e, f, shl_exact 10 (y * 11) 64 small (omega arith)) refl
-
-pub grown_is : (words l₀ : List ℕ) (d : ℕ) {a b : ℕ} → d * 2 + 3 < length l₀
-    → a ≡ grown_word (get_or words 0 0) (get_or l₀ (d * 2) 0) (get_or l₀ (d * 2 + 1) 0 * 2 ^ 44 % 2 ^ 64)
-    → b ≡ grown_word (get_or words 1 0) (get_or l₀ (d * 2 + 1) 0) (get_or l₀ (d * 2) 0 / 2 ^ 44)
-    → Grown words d l₀ (set (set l₀ (d * 2 + 2) a) (d * 2 + 3) b) (not (eqb (bit_or (bit_xor a (get_or l₀ (d * 2) 0)) (bit_xor b (get_or l₀ (d * 2 + 1) 0))) 0))
-grown_is words l₀ d {a} {b} h e f = record {
-  long = length-set (set l₀ (d * 2 + 2) a) (d * 2 + 3) b ∙ length-set l₀ (d * 2 + 2) a;
-  before = λ k m. get_or-set_other (set l₀ (d * 2 + 2) a) (d * 2 + 3) k b 0 (λ q. omega arith) ∙ get_or-set_other l₀ (d * 2 + 2) k a 0 (λ q. omega arith);
-  upper = first ∙ e ∙ ap (λ (k : ℕ). grown_word (get_or words 0 0) (get_or l₀ k 0) (get_or l₀ (d * 2 + 1) 0 * 2 ^ 44 % 2 ^ 64)) (sym (add-zero (d * 2)));
-  lower = second ∙ f ∙ ap (λ (k : ℕ). grown_word (get_or words 1 0) (get_or l₀ (d * 2 + 1) 0) (get_or l₀ k 0 / 2 ^ 44)) (sym (add-zero (d * 2)));
-  still = λ z k m. kept (or_none (bit_xor a (get_or l₀ (d * 2) 0)) (bit_xor b (get_or l₀ (d * 2 + 1) 0)) (eqb-true _ 0 (not_false _ z))) k m (below_or k 1);
-}
-  where
-    l : List ℕ
-    l = set (set l₀ (d * 2 + 2) a) (d * 2 + 3) b
-
-    not_false : (t : Bool) → not t ≡ false → t ≡ true
-    not_false true z = refl
-    not_false false z = cc
-
-    first : word_at l (d + 1) 0 ≡ a
-    first =
-        let at : (d + 1) * 2 + 0 ≡ d * 2 + 2 = omega arith in
-        ap (λ (k : ℕ). get_or l k 0) at ∙ get_or-set_other (set l₀ (d * 2 + 2) a) (d * 2 + 3) (d * 2 + 2) b 0 (λ q. omega arith) ∙ get_or-set_same l₀ (d * 2 + 2) a 0 (omega arith)
-
-    second : word_at l (d + 1) 1 ≡ b
-    second =
-        let at : (d + 1) * 2 + 1 ≡ d * 2 + 3 = omega arith in
-        ap (λ (k : ℕ). get_or l k 0) at ∙ get_or-set_same (set l₀ (d * 2 + 2) a) (d * 2 + 3) b 0 (omega (arith, length-set l₀ (d * 2 + 2) a))
-
-    kept : (bit_xor a (get_or l₀ (d * 2) 0) ≡ 0) × (bit_xor b (get_or l₀ (d * 2 + 1) 0) ≡ 0) → (k : ℕ) → k < 2 → (k < 1) ⊎ (1 ≤ k) → word_at l (d + 1) k ≡ word_at l₀ d k
-    kept z k m (inl q) =
-        let n : k ≡ 0 = omega arith in
-        rw n (first ∙ xor_none a (get_or l₀ (d * 2) 0) z.0 ∙ ap (λ (j : ℕ). get_or l₀ j 0) (sym (add-zero (d * 2))))
-    kept z k m (inr q) = let n : k ≡ 1 = omega arith in rw n (second ∙ xor_none b (get_or l₀ (d * 2 + 1) 0) z.1)

@@ -1,5 +1,5 @@
 -- A sector's cells as two words of bits, and the levels of a spread of moves: level d has the cells that at most d moves reach.
-use Rattle.std.specs.Prelude.{Bool, false, if◌then◌else◌, Option, Some, None, ℕ, zero, suc, ◌+◌, ◌-◌, ◌*◌, ◌/◌, ◌%◌, ◌^◌, ◌<◌, ◌≡◌, List, ltb, eqb, length, get_or}
+use Rattle.std.specs.Prelude.{if◌then◌else◌, Option, Some, None, ℕ, zero, suc, ◌+◌, ◌-◌, ◌*◌, ◌/◌, ◌%◌, ◌^◌, List, [], ◌∷◌, ltb, eqb, get_or}
 use Rattle.std.specs.Int.Bits.{bit_and, bit_or}
 use Rattle.laws.specs.Fold.{pick}
 use Rattle.laws.specs.Table.{tabulate}
@@ -33,6 +33,9 @@ open_words costs = tabulate (open_word costs) 2 0
 unfoldable pub first_word : ℕ → ℕ → ℕ
 first_word from h = pick (eqb h (from / 50)) (2 ^ spot from) 0
 
+unfoldable pub first_level : ℕ → List ℕ
+first_level from = tabulate (first_word from) 2 0
+
 -- the cells of a half and those beside them, with those beside the other half
 unfoldable pub around : ℕ → ℕ → ℕ
 around word across = bit_or (bit_or (bit_or (bit_or (bit_or word (word * 2 % 2 ^ 64)) (word / 2)) (word * 2 ^ 11 % 2 ^ 64)) (word / 2 ^ 11)) across
@@ -41,33 +44,32 @@ around word across = bit_or (bit_or (bit_or (bit_or (bit_or word (word * 2 % 2 ^
 unfoldable pub grown_word : ℕ → ℕ → ℕ → ℕ
 grown_word cells word across = bit_and (around word across) cells
 
--- half h of level d
-abbrev pub word_at : List ℕ → ℕ → ℕ → ℕ
-word_at levels d h = get_or levels (d * 2 + h) 0
+-- the level after a level
+unfoldable pub grown : List ℕ → List ℕ → List ℕ
+grown words level =
+    let upper = get_or level 0 0 in
+    let lower = get_or level 1 0 in
+    grown_word (get_or words 0 0) upper (lower * 2 ^ 44 % 2 ^ 64) ∷ grown_word (get_or words 1 0) lower (upper / 2 ^ 44) ∷ []
 
--- level d + 1 is made; it is level d unless it has grown
-pub record Grown (words : List ℕ) (d : ℕ) (l₀ l : List ℕ) (grew : Bool) : Type 0 where
-  pub long : length l ≡ length l₀
-  pub before : (k : ℕ) → k < d * 2 + 2 → get_or l k 0 ≡ get_or l₀ k 0
-  pub upper : word_at l (d + 1) 0 ≡ grown_word (get_or words 0 0) (word_at l₀ d 0) (word_at l₀ d 1 * 2 ^ 44 % 2 ^ 64)
-  pub lower : word_at l (d + 1) 1 ≡ grown_word (get_or words 1 0) (word_at l₀ d 1) (word_at l₀ d 0 / 2 ^ 44)
-  pub still : grew ≡ false → (h : ℕ) → h < 2 → word_at l (d + 1) h ≡ word_at l₀ d h
+-- half h of level d
+abbrev pub word_at : List (List ℕ) → ℕ → ℕ → ℕ
+word_at levels d h = get_or (get_or levels d []) h 0
 
 -- ---- the moves that levels tell
 -- the bit of cell i in level d
-abbrev pub cell_bit : List ℕ → ℕ → ℕ → ℕ
+abbrev pub cell_bit : List (List ℕ) → ℕ → ℕ → ℕ
 cell_bit levels d i = word_at levels d (i / 50) / 2 ^ spot i % 2
 
 -- how many of the first n levels lack cell i
-unfoldable pub missing : List ℕ → ℕ → ℕ → ℕ
+unfoldable pub missing : List (List ℕ) → ℕ → ℕ → ℕ
 missing levels zero i = 0
 missing levels (suc d) i = missing levels d i + (1 - cell_bit levels d i)
 
-unfoldable pub moves_by : List ℕ → ℕ → ℕ → ℕ
+unfoldable pub moves_by : List (List ℕ) → ℕ → ℕ → ℕ
 moves_by levels n i = pick (ltb (missing levels n i) n) (missing levels n i) apart
 
 -- the moves to each cell, by n levels
-unfoldable pub moves_in : List ℕ → ℕ → List ℕ
+unfoldable pub moves_in : List (List ℕ) → ℕ → List ℕ
 moves_in levels n = tabulate (moves_by levels n) 100 0
 
 -- a count of moves, and none where it is `apart`

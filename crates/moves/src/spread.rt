@@ -1,10 +1,10 @@
 // The fewest moves inside a sector, by words of bits: level d has the cells that at most d moves reach.
-ghost use Rattle.std.specs.Prelude.{◌≡◌, ℕ, ◌+◌, ◌*◌, ◌≤◌, ◌<◌, List, length, get_or, set};
+ghost use Rattle.std.specs.Prelude.{◌≡◌, ℕ, ◌≤◌, ◌<◌, List, length, get_or};
 ghost use Rattle.model.specs.Moves.{moves};
-ghost use Rattle.moves.specs.Levels.{open_words, first_word, grown_word, Grown, missing, moves_in, moves_or_none};
+ghost use Rattle.moves.specs.Levels.{open_words, first_word, first_level, grown_word, grown, missing, moves_in, moves_or_none};
 
 use crate::open_cells::spot_of;
-use fields::costs::BLOCKED;
+use fields::costs::is_open;
 use std::marker::Model;
 
 // Half h of level 0, which has cell `from` alone.
@@ -19,11 +19,11 @@ fn first_word(from: usize, h: usize) -> u64
 }
 
 // Level 0.
-fn begin(from: usize, levels: &mut [u64; 202])
-    ensures { levels.new ≡ set (set levels.old 0 (first_word from 0)) 1 (first_word from 1) }
+#[tactic(auto, unfolding(crate::specs::Levels::first_level, laws::specs::Table::tabulate))]
+fn first_level(from: usize) -> [u64; 2]
+    ensures { result ≡ first_level from }
 {
-    levels[0] = first_word(from, 0);
-    levels[1] = first_word(from, 1);
+    [first_word(from, 0), first_word(from, 1)]
 }
 
 // A half of the next level: the open cells that are in this level or beside a cell of it; `across` has those beside a cell of the other half.
@@ -34,48 +34,29 @@ fn grown_word(cells: u64, word: u64, across: u64) -> u64
     (word | word << 1 | word >> 1 | word << 11 | word >> 11 | across) & cells
 }
 
-// Level d + 1, and whether it has a cell that level d lacks.
-fn grow(words: [u64; 2], d: usize, levels: &mut [u64; 202]) -> bool
-    requires { d < 100 }
-    ensures { Grown words d levels.old levels.new result }
+// The level after a level.
+#[tactic(auto, unfolding(crate::specs::Levels::grown))]
+fn grown(words: [u64; 2], level: [u64; 2]) -> [u64; 2]
+    ensures { result ≡ grown words level }
 {
-    let upper = levels[d * 2];
-    let lower = levels[d * 2 + 1];
-    let next = grown_word(words[0], upper, lower << 44);
-    let last = grown_word(words[1], lower, upper >> 44);
-    levels[d * 2 + 2] = next;
-    levels[d * 2 + 3] = last;
-    (next ^ upper) | (last ^ lower) != 0
-}
-
-// The levels of the moves from a cell, and how many there are: the last has every cell that moves reach.
-fn fill_levels(costs: &[u8], words: [u64; 2], from: usize, levels: &mut [u64; 202]) -> usize
-    requires { (length costs.now ≡ 100) × (words ≡ open_words costs.now) × (from < 100) }
-    ensures { (result ≤ 101) × (moves_in levels.new result ≡ moves costs.now from) }
-{
-    begin(from, levels);
-    if costs[from] == BLOCKED {
-        return 1;
-    }
-    for d in 0..100 {
-        if !grow(words, d, levels) {
-            return d + 1;
-        }
-    }
-    101
+    let [upper, lower] = level;
+    [
+        grown_word(words[0], upper, lower << 44),
+        grown_word(words[1], lower, upper >> 44),
+    ]
 }
 
 // How many of n levels lack cell i.
 #[tactic(auto, unfolding(crate::specs::Levels::missing))]
-fn lacking(levels: &[u64; 202], n: usize, i: usize) -> u64
+fn lacking(levels: &[[u64; 2]; 101], n: usize, i: usize) -> u8
     requires { (n ≤ 101) × (i < 100) }
     ensures { result ≡ missing levels.now n i }
 {
     let h = i / 50;
     let k = spot_of(i);
     let mut lack = 0;
-    for d in 0..n {
-        lack += 1 - (levels[d * 2 + h] >> k) % 2;
+    for level in &levels[..n] {
+        lack += u8::from((level[h] >> k) % 2 == 0);
     }
     lack
 }
@@ -83,7 +64,7 @@ fn lacking(levels: &[u64; 202], n: usize, i: usize) -> u64
 // A spread of moves over a sector from one of its cells.
 #[derive(Drop)]
 pub struct Spread {
-    levels: [u64; 202],
+    levels: [[u64; 2]; 101],
     count: usize,
 }
 
@@ -100,7 +81,7 @@ impl Spread {
     // A spread from no cell.
     pub fn new() -> Spread {
         Spread {
-            levels: [0; 202],
+            levels: [[0; 2]; 101],
             count: 0,
         }
     }
@@ -110,7 +91,19 @@ impl Spread {
         requires { (length costs.now ≡ 100) × (words ≡ open_words costs.now) × (from < 100) }
         ensures { self.new ≡ moves costs.now from }
     {
-        self.count = fill_levels(costs, words, from, &mut self.levels);
+        self.levels[0] = first_level(from);
+        self.count = 1;
+        if !is_open(costs, from) {
+            return;
+        }
+        for d in 0..100 {
+            let level = grown(words, self.levels[d]);
+            if level == self.levels[d] {
+                return;
+            }
+            self.levels[d + 1] = level;
+            self.count = d + 2;
+        }
     }
 
     // The fewest moves to cell i, or None where none lead there.
@@ -118,11 +111,7 @@ impl Spread {
         requires { i < 100 }
         ensures { result ≡ moves_or_none (get_or self.now i 0) }
     {
-        let lack = lacking(&self.levels, self.count, i) as usize;
-        if lack < self.count {
-            Some(lack as u8)
-        } else {
-            None
-        }
+        let lack = lacking(&self.levels, self.count, i);
+        (usize::from(lack) < self.count).then_some(lack)
     }
 }

@@ -4,5 +4,5 @@ use mathlib.Core.Path.{◌≡◌}
 use Rattle.moves.specs.Levels.{missing}
 use Rattle.moves.proofs.spread.lacking.Given as goal
 
-abbrev pub invariant-loop-d : goal.invariant-loop-d
-invariant-loop-d l = (l.lack ≤ l.d) × (l.lack ≡ missing l.levels l.d l.i)
+abbrev pub invariant-loop-level : goal.invariant-loop-level
+invariant-loop-level l = (l.lack ≤ l.level-index) × (l.lack ≡ missing l.levels l.level-index l.i)
