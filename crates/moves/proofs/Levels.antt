@@ -7,6 +7,8 @@ use mathlib.Core.Logic.{◌⊎◌, inl, inr}
 use mathlib.Core.Bool.{Bool, true, false}
 use mathlib.Core.List.{List, []}
 use Rattle.std.specs.Bool.{then_some}
+use Rattle.std.specs.Int.{bit_at}
+use Rattle.std.proofs.lemmas.Nat.Bits.{bit_at-zero, bit_at-pow_same, bit_at-pow_other}
 use lib.Dec.{ltb, eqb}
 use lib.ListN.{length, get_or, set, length-set}
 use lib.Seq.{ext_get_or, get_or-set_same, get_or-set_other}
@@ -20,7 +22,7 @@ use Rattle.model.specs.Cells.{beside}
 use Rattle.model.specs.Costs.{open_at}
 use Rattle.model.specs.Moves.{moves}
 use Rattle.moves.specs.Levels.{spot, open_words, first_word, first_level, grown_word, grown, word_at, cell_bit, missing, moves_by, moves_in, moves_or_none}
-use Rattle.moves.proofs.Bits.{bit_at, none_bit, cut_bit, own_bit, other_bit}
+use Rattle.moves.proofs.Bits.{cut_bit}
 use Rattle.moves.proofs.Words.{Out, from_other, one_spot, cells_out, open_yes, open_no, side_bit, side_there, side_none, grown_bit, grown_only, NextBit, by_side}
 use Rattle.moves.proofs.Steps.{far, far_start, far_capped, far_none, far_blocked, far_open, far_before, far_next, far_still, far_few, moves_long}
 
@@ -56,15 +58,15 @@ module _ (costs : List ℕ) (from : ℕ) (low : from < 100) (l₀ : List (List �
 
   first_own : bit_at (first_word from (from / 50)) (spot from) ≡ 1
   unfolding first_word
-  first_own = rw (eq-eqb (from / 50) (from / 50) refl) (own_bit (spot from))
+  first_own = rw (eq-eqb (from / 50) (from / 50) refl) (bit_at-pow_same (spot from))
 
   first_other : (h k : ℕ) → (h ≡ from / 50 → k ≡ spot from → ⊥) → bit_at (first_word from h) k ≡ 0
   unfolding first_word
   first_other h k n = go (eqb h (from / 50)) refl
     where
       go : (t : Bool) → eqb h (from / 50) ≡ t → bit_at (pick t (2 ^ spot from) 0) k ≡ 0
-      go true e = other_bit (spot from) k (λ q. n (eqb-true h (from / 50) e) (sym q))
-      go false e = none_bit k
+      go true e = bit_at-pow_other (spot from) k (λ q. n (eqb-true h (from / 50) e) q)
+      go false e = bit_at-zero k
 
   level_first : Level (far costs from) begun 0
   level_first = record {

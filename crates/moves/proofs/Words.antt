@@ -6,6 +6,8 @@ use mathlib.Core.Path.{◌≡◌, refl, sym, ap, ap₂, ◌∙◌}
 use mathlib.Core.Logic.{◌⊎◌, inl, inr}
 use mathlib.Core.Bool.{true, false}
 use mathlib.Core.List.{List}
+use Rattle.std.specs.Int.{bit_at}
+use Rattle.std.proofs.lemmas.Nat.Bits.{bit_at-zero, bit_at_above}
 use lib.Bits.{bit_or}
 use lib.ListN.{get_or}
 use lib.Pow.{shl_exact}
@@ -21,7 +23,7 @@ use Rattle.model.specs.Costs.{open_at}
 use Rattle.model.specs.Windows.{is_open}
 use Rattle.model.specs.WindowRuns.{bits_small, bits_open}
 use Rattle.moves.specs.Levels.{spot, packed, open_row, open_word, open_words, around, grown_word, word_at, cell_bit}
-use Rattle.moves.proofs.Bits.{bit_at, and_bit, or_bit, none_bit, down_bit, up_bit, up_low, cut_bit, high_bit}
+use Rattle.moves.proofs.Bits.{and_bit, or_bit, down_bit, up_bit, up_low, cut_bit}
 
 -- a bit that no cell has: the last of a row, and past the rows
 abbrev pub Out : ℕ → Type 0
@@ -51,7 +53,7 @@ module _ (row : ℕ → ℕ) (small : (y : ℕ) → row y < 1024) where
   -- bit x of row y in a word of n rows
   packed_bit : (n y x : ℕ) → x < 11 → (y < n → bit_at (packed row n) (y * 11 + x) ≡ bit_at (row y) x) × (n ≤ y → bit_at (packed row n) (y * 11 + x) ≡ 0)
   unfolding packed
-  packed_bit zero y x h = ((λ q. absurd (omega arith)), (λ q. none_bit (y * 11 + x)))
+  packed_bit zero y x h = ((λ q. absurd (omega arith)), (λ q. bit_at-zero (y * 11 + x)))
   packed_bit (suc n) y x h =
       let more = packed_bit n y x h in
       let o = or_bit (packed row n) (row n * 2 ^ (n * 11)) (y * 11 + x) in (
@@ -59,7 +61,7 @@ module _ (row : ℕ → ℕ) (small : (y : ℕ) → row y < 1024) where
         λ q.
             let at : y * 11 + x ≡ n * 11 + ((y - n) * 11 + x) = omega arith in
             let off : bit_at (row n * 2 ^ (n * 11)) (y * 11 + x) ≡ 0 =
-            ap (λ (k : ℕ). bit_at (row n * 2 ^ (n * 11)) k) at ∙ up_bit (row n) (n * 11) ((y - n) * 11 + x) ∙ high_bit (row n) ((y - n) * 11 + x) (small n) (omega arith) in
+            ap (λ (k : ℕ). bit_at (row n * 2 ^ (n * 11)) k) at ∙ up_bit (row n) (n * 11) ((y - n) * 11 + x) ∙ bit_at_above (row n) 10 ((y - n) * 11 + x) (small n) (omega arith) in
             omega (arith, o.either, more.1 (omega arith), off),
       )
     where
@@ -89,7 +91,7 @@ module _ (costs : List ℕ) {words : List ℕ} (given : words ≡ open_words cos
       rw (word_is h l) (ap (λ (m : ℕ). bit_at (open_word costs h) m) at ∙ go (below_or (k / 11) 5) o b.0 b.1)
     where
       go : {b : ℕ} → (k / 11 < 5) ⊎ (5 ≤ k / 11) → Out k → (k / 11 < 5 → b ≡ bit_at (open_row costs (h * 5 + k / 11)) (k % 11)) → (5 ≤ k / 11 → b ≡ 0) → b ≡ 0
-      go (inl a) (inl e) f g = f a ∙ high_bit (open_row costs (h * 5 + k / 11)) (k % 11) (row_small costs (h * 5 + k / 11)) (omega arith)
+      go (inl a) (inl e) f g = f a ∙ bit_at_above (open_row costs (h * 5 + k / 11)) 10 (k % 11) (row_small costs (h * 5 + k / 11)) (omega arith)
       go (inl a) (inr e) f g = absurd (omega arith)
       go (inr a) e f g = g a
 
