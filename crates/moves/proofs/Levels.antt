@@ -7,6 +7,8 @@ use mathlib.Core.Logic.{◌⊎◌, inl, inr}
 use mathlib.Core.Bool.{Bool, true, false}
 use mathlib.Core.List.{List, []}
 use Rattle.std.specs.Bool.{then_some}
+use Rattle.std.specs.Cmp.Lexicographic.{same_text}
+use lib.Pointwise.{pointwise}
 use Rattle.std.specs.Int.{bit_at}
 use Rattle.std.proofs.lemmas.Nat.Bits.{bit_at-zero, bit_at-pow_same, bit_at-pow_other}
 use lib.Dec.{ltb, eqb}
@@ -33,9 +35,9 @@ pub record Level (far : ℕ → ℕ) (l : List (List ℕ)) (d : ℕ) : Type 0 wh
   pub yes : (i : ℕ) → i < 100 → far i ≤ d → cell_bit l d i ≡ 1
   pub no : (i : ℕ) → i < 100 → d < far i → cell_bit l d i ≡ 0
 
-pub record Levels (far : ℕ → ℕ) (l : List (List ℕ)) (n : ℕ) : Type 0 where
+pub record Levels (costs : List ℕ) (from : ℕ) (l : List (List ℕ)) (n : ℕ) : Type 0 where
   pub long : length l ≡ 101
-  pub each : (d : ℕ) → d < n → Level far l d
+  pub each : (d : ℕ) → d < n → Level (far costs from) l d
 
 level_kept : {far : ℕ → ℕ} {l₀ l : List (List ℕ)} {d : ℕ} → Level far l₀ d → get_or l d [] ≡ get_or l₀ d [] → Level far l d
 level_kept {far} {l₀} {l} {d} v kept = record {
@@ -85,14 +87,14 @@ module _ (costs : List ℕ) (from : ℕ) (low : from < 100) (l₀ : List (List �
           off y x a b (inl c) e = omega arith
           off y x a b (inr c) e = omega arith
 
-  pub levels_first : Levels (far costs from) begun 1
+  pub levels_first : Levels costs from begun 1
   levels_first = record {
     long = length-set l₀ 0 (first_level from) ∙ long;
     each = λ d h. let z : d ≡ 0 = omega arith in rw z level_first;
   }
 
 -- ---- the next level
-module _ (costs : List ℕ) (from : ℕ) (low : from < 100) (start : open_at costs from ≡ true) {words : List ℕ} (given : words ≡ open_words costs) {l₀ : List (List ℕ)} {d : ℕ} (few : d < 100) (all : Levels (far costs from) l₀ (d + 1)) where
+module _ (costs : List ℕ) (from : ℕ) (low : from < 100) (start : open_at costs from ≡ true) {words : List ℕ} (given : words ≡ open_words costs) {l₀ : List (List ℕ)} {d : ℕ} (few : d < 100) (all : Levels costs from l₀ (d + 1)) where
   abbrev l : List (List ℕ)
   l = set l₀ (d + 1) (grown words (get_or l₀ d []))
 
@@ -176,7 +178,7 @@ module _ (costs : List ℕ) (from : ℕ) (low : from < 100) (start : open_at cos
           let z : h ≡ 1 = omega arith in
           rw (z, lower) (omega (arith, grown_only (get_or words 1 0) (word_at l₀ d 1) (word_at l₀ d 0 / 2 ^ 44) k, cells_out costs given 1 k (omega arith) o))
 
-  pub levels_more : Levels (far costs from) l (d + 1 + 1)
+  pub levels_more : Levels costs from l (d + 1 + 1)
   levels_more = record { long = length-set l₀ (d + 1) (grown words (get_or l₀ d [])) ∙ all.long; each = λ e h. go e (below_or e (d + 1)) h }
     where
       go : (e : ℕ) → (e < d + 1) ⊎ (d + 1 ≤ e) → e < d + 1 + 1 → Level (far costs from) l e
@@ -193,7 +195,7 @@ module _ (costs : List ℕ) (from : ℕ) (low : from < 100) (start : open_at cos
           omega (arith, same, next_yes j b (omega arith), level.no j b (omega arith))
 
 -- ---- what the levels tell
-module _ (costs : List ℕ) (from : ℕ) (low : from < 100) {l : List (List ℕ)} {n : ℕ} (all : Levels (far costs from) l n) (whole : (i : ℕ) → i < 100 → far costs from i < 255 → far costs from i < n) where
+module _ (costs : List ℕ) (from : ℕ) (low : from < 100) {l : List (List ℕ)} {n : ℕ} (all : Levels costs from l n) (whole : (i : ℕ) → i < 100 → far costs from i < 255 → far costs from i < n) where
   -- the levels that lack a cell are those below its moves
   missing_is : (i k : ℕ) → i < 100 → k ≤ n → (far costs from i < k → missing l k i ≡ far costs from i) × (k ≤ far costs from i → missing l k i ≡ k)
   unfolding missing
@@ -234,20 +236,37 @@ told_at l n i low few = rw (tabulate_at (moves_by l n) 100 i 0 low) (go (ltb (mi
     go true e = rw (lt-ltb (missing l n i) 255 (omega (arith, ltb-true (missing l n i) n e))) refl
     go false e = refl
 
--- ---- as `fill` meets them
-module _ (costs : List ℕ) (from : ℕ) (low : from < 100) {l : List (List ℕ)} where
-  -- from a blocked cell
-  pub filled_blocked : open_at costs from ≡ false → Levels (far costs from) l 1 → moves_in l 1 ≡ moves costs from
-  filled_blocked shut all = told costs from low all (λ i h m. whole i (far_blocked costs from low shut i h m))
-    where
-      whole : (i : ℕ) → i ≡ from → far costs from i < 1
-      whole i z = omega (arith, far_start costs from low, ap (λ (k : ℕ). far costs from k) z)
+-- ---- as `fill` makes them
+-- the levels up to d
+pub record Made (costs : List ℕ) (from d : ℕ) (l : List (List ℕ)) (count : ℕ) : Type 0 where
+  pub counted : count ≡ d + 1
+  pub levels : Levels costs from l (d + 1)
+
+module _ (costs : List ℕ) {from : ℕ} (low : from < 100) where
+  module _ (l : List (List ℕ)) {level : List ℕ} (long : length l ≡ 101) (e : level ≡ first_level from) where
+    pub first_made : Made costs from 0 (set l 0 level) 1
+    first_made = record { counted = refl; levels = rw e (levels_first costs from low l long) }
+
+    -- from a blocked cell
+    pub first_last : false ≡ open_at costs from → moves_in (set l 0 level) 1 ≡ moves costs from
+    first_last shut = told costs from low first_made.levels (λ i h m. whole i (far_blocked costs from low (sym shut) i h m))
+      where
+        whole : (i : ℕ) → i ≡ from → far costs from i < 1
+        whole i z = omega (arith, far_start costs from low, ap (λ (k : ℕ). far costs from k) z)
+
+module _ {costs : List ℕ} {from d : ℕ} {l : List (List ℕ)} {count : ℕ} (low : from < 100) (made : Made costs from d l count) where
+  module _ {level words : List ℕ} (start : true ≡ open_at costs from) (given : words ≡ open_words costs) (few : d < 100) (e : level ≡ grown words (get_or l d [])) where
+    pub next_made : Made costs from (d + 1) (set l (d + 1) level) (d + 2)
+    next_made = record { counted = omega arith; levels = rw e (levels_more costs from low (sym start) given few made.levels) }
+
+    -- with a level whose next is the same
+    pub next_same : true ≡ pointwise eqb level (get_or l d []) → moves_in l count ≡ moves costs from
+    next_same same = rw made.counted (told costs from low made.levels (whole_still costs from low (sym start) given few made.levels (sym e ∙ same_text _ _ same)))
 
   -- with a level for each count of moves that there can be
-  pub filled_last : Levels (far costs from) l 101 → moves_in l 101 ≡ moves costs from
-  filled_last all = told costs from low all (λ i h m. omega (arith, far_few costs from low i h m))
+  pub all_made : 100 ≤ d → d ≤ 100 → moves_in l count ≡ moves costs from
+  all_made h m =
+      let z : d + 1 ≡ 101 = omega arith in
+      rw (made.counted, z) (told costs from low (rw z at made.levels) (λ i h m. omega (arith, far_few costs from low i h m)))
 
-  -- with a level whose next is the same
-  pub filled_still : open_at costs from ≡ true → {words : List ℕ} → words ≡ open_words costs → {d : ℕ} → d < 100 → Levels (far costs from) l (d + 1)
-      → grown words (get_or l d []) ≡ get_or l d [] → moves_in l (d + 1) ≡ moves costs from
-  filled_still start given few all z = told costs from low all (whole_still costs from low start given few all z)
+pub ruleset filling = (first_made, first_last, next_made, next_same, all_made)

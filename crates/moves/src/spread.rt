@@ -8,6 +8,7 @@ use fields::costs::is_open;
 use std::marker::Model;
 
 // Half h of level 0, which has cell `from` alone.
+#[tactic(auto, using(std::proofs::lemmas::Nat::one_shl), unfolding(crate::specs::Levels::first_word))]
 fn first_word(from: usize, h: usize) -> u64
     ensures { result ≡ first_word from h }
 {
@@ -87,6 +88,7 @@ impl Spread {
     }
 
     // Spreads the moves from a cell, by the costs and the open cells of its sector.
+    #[tactic(auto, using(crate::proofs::Levels::filling))]
     pub fn fill(&mut self, costs: &[u8], words: [u64; 2], from: usize)
         requires { (length costs.now ≡ 100) × (words ≡ open_words costs.now) × (from < 100) }
         ensures { self.new ≡ moves costs.now from }

@@ -1,9 +1,6 @@
--- `fill` gives the levels of the moves.
-use Prim.Native.Nat.{◌+◌}
-use mathlib.Core.Path.{◌≡◌}
-use Rattle.moves.proofs.Steps.{far}
-use Rattle.moves.proofs.Levels.{Levels}
+-- `fill` makes the levels one by one: before turn d those up to level d.
+use Rattle.moves.proofs.Levels.{Made}
 use Rattle.moves.proofs.spread.Spread.fill.Given as goal
 
 abbrev pub invariant-loop-d : goal.invariant-loop-d
-invariant-loop-d l = (l.self-inside.count ≡ l.d + 1) × Levels (far l.costs l.from) l.self-inside.levels (l.d + 1)
+invariant-loop-d l = Made l.costs l.from l.d l.self-inside.levels l.self-inside.count
