@@ -87,7 +87,7 @@ module _ (costs : List ℕ) (from : ℕ) (low : from < 100) (l₀ : List (List �
           off y x a b (inl c) e = omega arith
           off y x a b (inr c) e = omega arith
 
-  pub levels_first : Levels costs from begun 1
+  levels_first : Levels costs from begun 1
   levels_first = record {
     long = length-set l₀ 0 (first_level from) ∙ long;
     each = λ d h. let z : d ≡ 0 = omega arith in rw z level_first;
@@ -178,7 +178,7 @@ module _ (costs : List ℕ) (from : ℕ) (low : from < 100) (start : open_at cos
           let z : h ≡ 1 = omega arith in
           rw (z, lower) (omega (arith, grown_only (get_or words 1 0) (word_at l₀ d 1) (word_at l₀ d 0 / 2 ^ 44) k, cells_out costs given 1 k (omega arith) o))
 
-  pub levels_more : Levels costs from l (d + 1 + 1)
+  levels_more : Levels costs from l (d + 1 + 1)
   levels_more = record { long = length-set l₀ (d + 1) (grown words (get_or l₀ d [])) ∙ all.long; each = λ e h. go e (below_or e (d + 1)) h }
     where
       go : (e : ℕ) → (e < d + 1) ⊎ (d + 1 ≤ e) → e < d + 1 + 1 → Level (far costs from) l e

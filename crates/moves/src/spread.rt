@@ -49,15 +49,15 @@ fn grown(words: [u64; 2], level: [u64; 2]) -> [u64; 2]
 
 // How many of n levels lack cell i.
 #[tactic(auto, unfolding(crate::specs::Levels::missing))]
-fn lacking(levels: &[[u64; 2]; 101], n: usize, i: usize) -> u8
+fn lacking(levels: &[[u64; 2]; 101], n: usize, i: usize) -> usize
     requires { (n ≤ 101) × (i < 100) }
-    ensures { result ≡ missing levels.now n i }
+    ensures { (result ≡ missing levels.now n i) × (result ≤ n) }
 {
     let h = i / 50;
     let k = spot_of(i);
     let mut lack = 0;
     for level in &levels[..n] {
-        lack += u8::from((level[h] >> k) % 2 == 0);
+        lack += usize::from((level[h] >> k) % 2 == 0);
     }
     lack
 }
@@ -114,6 +114,6 @@ impl Spread {
         ensures { result ≡ moves_or_none (get_or self.now i 0) }
     {
         let lack = lacking(&self.levels, self.count, i);
-        (usize::from(lack) < self.count).then_some(lack)
+        (lack < self.count).then_some(lack as u8)
     }
 }

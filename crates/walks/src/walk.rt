@@ -22,6 +22,7 @@ pub struct Start {
 }
 
 // The walk of up to n steps from place a, each of which adds a number less 121: it stops at the first wall. How many cells it passed before, or None where it met no wall.
+#[tactic(auto, using(laws::specs::Search::sought_no))]
 fn walk_line(board: &[u8], a: usize, step: usize, n: usize) -> Option<usize>
     requires { Line a step n (length board.now) × (length board.now ≤ 14400) × (step ≤ 242) }
     ensures { MatchOption result (Sought (blocked_on board.now a step) n n false) (λ passed. Sought (blocked_on board.now a step) n passed true) }
@@ -46,10 +47,10 @@ fn turned(c: usize, e: usize) -> usize
     requires { (c ≤ 9) × (e ≤ 2) }
     ensures { (result ≡ (c + 9 + e) % 10) × (result ≤ 9) }
 {
-    match e {
-        0 => if c == 0 { 9 } else { c - 1 },
-        1 => c,
-        _ => if c == 9 { 0 } else { c + 1 },
+    match c + e {
+        0 => 9,
+        11 => 0,
+        n => n - 1,
     }
 }
 

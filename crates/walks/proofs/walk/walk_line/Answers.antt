@@ -2,8 +2,7 @@
 use Prim.Native.Nat.{◌+◌, ◌-◌}
 use mathlib.Core.Path.{◌≡◌, refl, sym, ◌∙◌, ap}
 use mathlib.Core.Bool.{not}
-use native.Mathlib.Omega.{arith}
-use Rattle.laws.specs.Search.{sought_yes, sought_no}
+use Rattle.laws.specs.Search.{sought_yes}
 use Rattle.walks.specs.Lines.{Reached, reached_next, blocked_on, blocked_is}
 use borrow.Author.Rules.{rules}
 use Rattle.walks.proofs.walk.walk_line.Goals as goal
@@ -16,9 +15,6 @@ stepped c = reached_next c.requires.0 c.walk.invariant.1 (search rules) refl
 -- and what is read there is whether it meets a wall
 blocked : (c : After-is_open) → let a = c.args in not c.is_open.result ≡ blocked_on a.board.now a.a a.step c.walk.passed
 blocked c = blocked_is _ _ (stepped c) c.is_open.ensures
-
-pub returns-then-n-passed : goal.returns-then-n-passed
-returns-then-n-passed c = let n = c.args.n in sought_no _ n n refl (omega arith) (omega arith) (λ j l. c.walk.invariant.0.clear j (omega arith))
 
 pub returns-then-not-is_open : goal.returns-then-not-is_open
 returns-then-not-is_open c = let i = c.walk.invariant.0 in sought_yes _ _ _ refl (search rules) i.clear (sym (blocked (goal.at.returns-then-not-is_open c).After-is_open) ∙ ap not c.if-not-is_open.true)
