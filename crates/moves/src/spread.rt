@@ -1,5 +1,5 @@
 // The fewest moves inside a sector, by words of bits: level d has the cells that at most d moves reach.
-ghost use Rattle.std.specs.Prelude.{◌≡◌, ℕ, ◌≤◌, ◌<◌, List, length, get_or};
+ghost use Rattle.std.specs.Prelude.{◌≡◌, ℕ, ◌+◌, ◌≤◌, ◌<◌, List, length, get_or};
 ghost use Rattle.model.specs.Moves.{moves};
 ghost use Rattle.moves.specs.Levels.{open_words, first_word, first_level, grown_word, grown, missing, moves_in, moves_or_none};
 
@@ -47,19 +47,19 @@ fn grown(words: [u64; 2], level: [u64; 2]) -> [u64; 2]
     ]
 }
 
-// How many of n levels lack cell i. A loop: by `filter` and `count` a route over combs takes 8,406,435 instructions, by `map` and `sum` 6,618,413, and so 6,343,743.
+// How many of n levels have cell i. A loop: by `filter` and `count` a route over combs takes 7,577,279 instructions, and so 6,120,673.
 #[tactic(auto, unfolding(crate::specs::Levels::missing))]
-fn lacking(levels: &[[u64; 2]; 101], n: usize, i: usize) -> usize
+fn having(levels: &[[u64; 2]; 101], n: usize, i: usize) -> usize
     requires { (n ≤ 101) × (i < 100) }
-    ensures { (result ≡ missing levels.now n i) × (result ≤ n) }
+    ensures { result + missing levels.now n i ≡ n }
 {
     let h = i / 50;
     let k = spot_of(i);
-    let mut lack = 0;
+    let mut have = 0;
     for level in &levels[..n] {
-        lack += usize::from((level[h] >> k) % 2 == 0);
+        have += usize::from((level[h] >> k) % 2 == 1);
     }
-    lack
+    have
 }
 
 // A spread of moves over a sector from one of its cells.
@@ -113,7 +113,7 @@ impl Spread {
         requires { i < 100 }
         ensures { result ≡ moves_or_none (get_or self.now i 0) }
     {
-        let lack = lacking(&self.levels, self.count, i);
+        let lack = self.count - having(&self.levels, self.count, i);
         (lack < self.count).then_some(lack as u8)
     }
 }
