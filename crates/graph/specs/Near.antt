@@ -1,5 +1,5 @@
 -- The moves between a cell and the portals of its sector, as one list by place; by it go the start portals, the end portals, leg and the last moves.
-use Rattle.std.specs.Prelude.{if◌then◌else◌, Option, Some, None, is_some, IsSome, ℕ, ◌≤◌, ◌<◌, ◌≡◌, ◌⊎◌, Bool, ◌&&◌, List, length, get_or}
+use Rattle.std.specs.Prelude.{if◌then◌else◌, Option, Some, None, is_some, IsSome, IfSome, ℕ, ◌≤◌, ◌<◌, ◌≡◌, ◌⊎◌, Bool, ◌&&◌, List, length, get_or}
 use Rattle.std.proofs.Common.{arith, sym, ap, ◌∙◌, inl, inr, ext_get_or}
 use Rattle.std.proofs.Math.Path.{refl}
 use Rattle.std.proofs.Math.Bool.{true, false}
@@ -8,6 +8,7 @@ use borrow.Author.Tests.{ltb-true, lt-ltb, le-ltb, eq-eqb, ne_eqb}
 use Rattle.laws.specs.Fold.{pick}
 use Rattle.laws.specs.Search.{both}
 use Rattle.laws.specs.Graph.{below_or}
+use Rattle.std.proofs.Math.ListN.{get_or-eq_default}
 use Rattle.laws.specs.Options.{some_if}
 use Rattle.laws.specs.Table.{tabulate, length_tabulate, tabulate_at, table_at}
 use Rattle.model.specs.Sectors.{sector_cells, sector_of, place_of, costs_of}
@@ -28,7 +29,7 @@ sector_mids h s = tabulate (λ c. mid_of h (place_portal s c)) sector_portals 0
 -- the moves to a midpoint, by the moves to the cells of its sector
 unfoldable pub near_by : List ℕ → Option ℕ → Option ℕ
 near_by from None = None
-near_by from (Some mid) = if ltb mid sector_cells then moves_or_none (get_or from mid 0) else None
+near_by from (Some mid) = moves_or_none (get_or from mid 0)
 
 -- from cell x to the portals of its sector
 unfoldable pub portal_moves : Hall → ℕ → List (Option ℕ)
@@ -43,13 +44,36 @@ pub mid_none : (h : Hall) (p : ℕ) → is_portal h p ≡ false → None ≡ mid
 unfolding mid_of
 mid_none h p e = rw e refl
 
-pub near_none : (from : List ℕ) (mid : ℕ) → sector_cells ≤ mid → None ≡ near_by from (Some mid)
+pub near_none : (from : List ℕ) {mid : Option ℕ} → mid ≡ None → None ≡ near_by from mid
 unfolding near_by
-near_none from mid l = rw (le-ltb mid sector_cells l) refl
+near_none from e = rw e refl
 
-pub near_some : (from : List ℕ) (mid : ℕ) {n : ℕ} → mid < sector_cells → n ≡ mid → moves_or_none (get_or from n 0) ≡ near_by from (Some mid)
+pub near_some : (from : List ℕ) {mid : Option ℕ} {n : ℕ} → mid ≡ Some n → moves_or_none (get_or from n 0) ≡ near_by from mid
 unfolding near_by
-near_some from mid l e = rw (lt-ltb mid sector_cells l, e) refl
+near_some from e = rw e refl
+
+-- each midpoint is a cell of a sector
+abbrev pub InSector : List (Option ℕ) → Type 0
+InSector mids = (k : ℕ) → IfSome (get_or mids k None) (λ cell. cell < sector_cells)
+
+mid_inside : (h : Hall) → Fits h → (p : ℕ) → IfSome (mid_of h p) (λ cell. cell < sector_cells)
+unfolding mid_of
+mid_inside h fits p = go (is_portal h p) refl
+  where
+    go : (t : Bool) → is_portal h p ≡ t → IfSome (if is_portal h p then Some (midpoint h p) else None) (λ cell. cell < sector_cells)
+    go true e = rw e (mid_low h fits p e)
+    go false e = rw e tt
+
+pub mids_inside : (h : Hall) → Fits h → (s : ℕ) {mids : List (Option ℕ)} → mids ≡ sector_mids h s → InSector mids
+unfolding sector_mids
+mids_inside h fits s {mids} e k = go (below_or k sector_portals)
+  where
+    rule : ℕ → Option ℕ
+    rule c = mid_of h (place_portal s c)
+
+    go : (k < sector_portals) ⊎ (sector_portals ≤ k) → IfSome (get_or mids k None) (λ cell. cell < sector_cells)
+    go (inl l) = rw (table_at rule sector_portals e k None l) (mid_inside h fits (place_portal s k))
+    go (inr l) = rw (get_or-eq_default mids None {n = k} (omega (arith, ap length e, length_tabulate rule sector_portals 0))) tt
 
 pub other_sector : (costs : List ℕ) (x y : ℕ) → (sector_of x ≡ sector_of y → ⊥) → apart ≡ pick (joined costs x y) (moves_to costs x y) apart
 unfolding joined
@@ -129,8 +153,7 @@ module _ (h : Hall) (fits : Fits h) (x c : ℕ) (low : c < sector_portals) where
 
   there : is_portal h number ≡ true → There
   unfolding mid_of near_by moves_to
-  there e =
-      record { sector = omega (arith, mid_sector h fits number e); moved = entry_is ∙ rw (e, lt-ltb (midpoint h number) sector_cells (mid_low h fits number e), mid_place h fits number e) }
+  there e = record { sector = omega (arith, mid_sector h fits number e); moved = entry_is ∙ rw (e, mid_place h fits number e) refl }
 
   -- THE STARTS AND ENDS: a number's portal is joined to the cell exactly where the entry has moves
   pub start_test : (is_portal h number && joined h.scaled x (mid_cell h number)) ≡ is_some (get_or (portal_moves h x) c None)

@@ -2,7 +2,7 @@
 use Rattle.std.specs.Prelude.{if◌then◌else◌, Option, Some, None, unwrap_or, option_map, ℕ, ◌≤◌, ◌<◌, ◌≡◌, Bool, true, false, List, ltb, eqb, get_or}
 use Rattle.std.proofs.Common.{arith, sym, ap, ◌∙◌}
 use Rattle.std.proofs.Math.Path.{refl}
-use borrow.Author.Tests.{lt-ltb, eq-eqb, ne_eqb}
+use borrow.Author.Tests.{eq-eqb, ne_eqb}
 use Rattle.laws.specs.Fold.{pick}
 use Rattle.laws.specs.Options.{some_if, none_if}
 use Rattle.laws.specs.Table.{table_at}
@@ -16,7 +16,7 @@ use Rattle.model.specs.Moves.{moves, apart}
 use Rattle.model.specs.Halls.{Hall}
 use Rattle.model.specs.Portals.{sector_portals, arc_count, portal_sector, portal_side, portal_place, place_portal, arc_tail, arc_place, arc_at}
 use Rattle.model.specs.Portals.{is_portal, midpoint, moves_from, portal_at, portal_window, facing, key, outer_edge, inner_edge, edge_at, portal_graph}
-use Rattle.model.specs.PortalCrossings.{Fits, mid_low}
+use Rattle.model.specs.PortalCrossings.{Fits}
 use Rattle.model.specs.PortalEdges.{weight_at}
 use Rattle.model.specs.Store.{decode}
 use Rattle.store.specs.Passed.{Passed}
@@ -58,16 +58,16 @@ module _ (from : List ℕ) (mid : Option ℕ) (outer own c : ℕ) where
     unfolding edge_by
     edge_near l = rw (ne_eqb c own e, ← l) refl
 
-inner_by : (h : Hall) → Fits h → (from : List ℕ) (q : ℕ) → unwrap_or (option_map key (near_by from (mid_of h q))) 0 ≡ inner_edge h from q
+inner_by : (h : Hall) (from : List ℕ) (q : ℕ) → unwrap_or (option_map key (near_by from (mid_of h q))) 0 ≡ inner_edge h from q
 unfolding inner_edge mid_of near_by
-inner_by h fits from q = go (is_portal h q) refl
+inner_by h from q = go (is_portal h q) refl
   where
     some : (t : Bool) (n : ℕ) → unwrap_or (option_map key (if t then Some n else None)) 0 ≡ pick t (key n) 0
     some true n = refl
     some false n = refl
 
     go : (t : Bool) → is_portal h q ≡ t → unwrap_or (option_map key (near_by from (mid_of h q))) 0 ≡ inner_edge h from q
-    go true e = rw (e, lt-ltb (midpoint h q) sector_cells (mid_low h fits q e)) (some (ltb (get_or from (midpoint h q) 0) apart) (get_or from (midpoint h q) 0))
+    go true e = rw e (some (ltb (get_or from (midpoint h q) 0) apart) (get_or from (midpoint h q) 0))
     go false e = rw e refl
 
 -- what the midpoints of its sector say of number p
@@ -110,4 +110,4 @@ module _ (h : Hall) (p c : ℕ) (low : c < sector_portals) (inside : arc_at p c 
   pub weight_by : Fits h → {from : List ℕ} {mids : List (Option ℕ)} {outer : ℕ} → is_portal h p ≡ true → from ≡ moves_from h p → mids ≡ sector_mids h (portal_sector p) → outer ≡ outer_edge h p
       → edge_by from (get_or mids c None) outer (portal_place p) c ≡ (portal_graph h).weight (arc_at p c)
   unfolding edge_by edge_at
-  weight_by fits e f g o = rw (place_mid h p g c low, f, o, inner_by h fits (moves_from h p) (place_portal (portal_sector p) c)) (sym (weight_is ∙ rw e refl))
+  weight_by fits e f g o = rw (place_mid h p g c low, f, o, inner_by h (moves_from h p) (place_portal (portal_sector p) c)) (sym (weight_is ∙ rw e refl))

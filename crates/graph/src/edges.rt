@@ -1,11 +1,11 @@
 // The edges of the portal graph, as one list of weights by arc number.
-ghost use Rattle.std.specs.Prelude.{◌≡◌, None, ◌+◌, ◌*◌, ◌/◌, ◌%◌, ◌≤◌, ◌<◌, length, get_or};
-ghost use Rattle.model.specs.Sectors.{sectors, costs_of};
+ghost use Rattle.std.specs.Prelude.{◌≡◌, None, IfSome, ◌+◌, ◌*◌, ◌/◌, ◌%◌, ◌≤◌, ◌<◌, length, get_or};
+ghost use Rattle.model.specs.Sectors.{sector_cells, sectors, costs_of};
 ghost use Rattle.model.specs.Portals.{sector_portals, hall_portals, sector_arcs, portal_count, arc_count, portal_sector, portal_place, outer_edge};
 ghost use Rattle.moves.specs.Levels.{open_words};
 ghost use Rattle.store.specs.Stored.{stored};
 ghost use Rattle.graph.specs.EdgeTable.{Filled, Row, edge_table};
-ghost use Rattle.graph.specs.Near.{sector_mids};
+ghost use Rattle.graph.specs.Near.{sector_mids, InSector};
 ghost use Rattle.graph.specs.Weights.{edge_by};
 
 use crate::near::{moves_from, near_by, sector_mids, sector_words};
@@ -38,6 +38,7 @@ fn outer_edge(hall: &Opened<'_>, p: usize) -> u32
 // The edge at place c of a portal, or 0: at its own place the edge to the facing one, at another the moves to the midpoint there.
 #[tactic(auto, using(crate::specs::Weights::edge_own))]
 fn edge_at(spread: &Spread, mid: Option<u8>, outer: u32, own: usize, c: usize) -> u32
+    requires { IfSome mid (λ cell. cell < sector_cells) }
     ensures { result ≡ edge_by spread.now mid outer own c }
 {
     if c == own {
@@ -54,7 +55,8 @@ fn fill_places(
     outer: u32,
     table: &mut [u32],
 )
-    requires { (p < hall_portals) × (p * sector_portals + sector_portals ≤ length table.old) }
+    requires places { (p < hall_portals) × (p * sector_portals + sector_portals ≤ length table.old) }
+    requires cells { InSector mids.now }
     ensures { Row (λ c. edge_by spread.now (get_or mids.now c None) outer (portal_place p) c) p sector_portals table.old table.new }
 {
     for (c, mid) in mids.iter().enumerate() {

@@ -1,6 +1,6 @@
 // Moves between a cell and the portals of its sector.
-ghost use Rattle.std.specs.Prelude.{◌≡◌, ◌*◌, ◌/◌, ◌%◌, ◌≤◌, ◌<◌, if◌then◌else◌};
-ghost use Rattle.model.specs.Sectors.{sectors, cells, sector_of, place_of, costs_of};
+ghost use Rattle.std.specs.Prelude.{◌≡◌, IfSome, ◌*◌, ◌/◌, ◌%◌, ◌≤◌, ◌<◌, if◌then◌else◌};
+ghost use Rattle.model.specs.Sectors.{sector_cells, sectors, cells, sector_of, place_of, costs_of};
 ghost use Rattle.model.specs.Portals.{sector_portals};
 ghost use Rattle.model.specs.Moves.{moves, moves_to, joined};
 ghost use Rattle.moves.specs.Levels.{open_words};
@@ -38,16 +38,12 @@ pub fn sector_mids(hall: &Opened<'_>, s: usize) -> [Option<u8>; SECTOR_PORTALS]
 }
 
 // The moves to a midpoint, or None where there is no midpoint or no moves lead there.
-#[tactic(auto, unfolding(crate::specs::Near::near_by))]
-pub fn near_by(spread: &Spread, mid: Option<u8>) -> Option<u8>
+#[tactic(auto, using(crate::specs::Near::near_none, crate::specs::Near::near_some))]
+pub(crate) fn near_by(spread: &Spread, mid: Option<u8>) -> Option<u8>
+    requires { IfSome mid (λ cell. cell < sector_cells) }
     ensures { result ≡ near_by spread.now mid }
 {
-    let cell = usize::from(mid?);
-    if cell < SECTOR_CELLS {
-        spread.moves_at(cell)
-    } else {
-        None
-    }
+    spread.moves_at(usize::from(mid?))
 }
 
 // The open cells of sector s, in two words.

@@ -10,6 +10,7 @@ use Rattle.model.specs.Portals.{sector_portals, hall_portals, sector_arcs, porta
 use Rattle.model.specs.PortalCrossings.{mid_low}
 use Rattle.store.specs.Stored.{stored}
 use Rattle.graph.specs.Reading.{accepted_of, fits_of, measures_are}
+use Rattle.graph.specs.Near.{mids_inside}
 use Rattle.graph.specs.Weights.{own_none, own_some, moves_own, weight_none, weight_by}
 use Rattle.graph.proofs.edges.fill_number.Goals as goal
 use Rattle.graph.proofs.edges.fill_number.Goals.{Start}
@@ -58,7 +59,7 @@ moves_from-requires c =
 pub fill_places-requires : goal.fill_places-requires
 fill_places-requires c =
     let start = (goal.at.fill_places-requires c).Start in
-    (few start, room start)
+    record { places = (few start, room start); cells = mids_inside (H start) (fits_of c.args.hall.now.opened) _ c.requires.places.1 }
 
 pub returns : goal.returns
 returns c =
