@@ -1,5 +1,5 @@
 -- The moves between a cell and the portals of its sector, as one list by place; by it go the start portals, the end portals, leg and the last moves.
-use Rattle.std.specs.Prelude.{if◌then◌else◌, Option, Some, None, is_some, IsSome, IfSome, ℕ, ◌≤◌, ◌<◌, ◌≡◌, ◌⊎◌, Bool, ◌&&◌, List, length, get_or}
+use Rattle.std.specs.Prelude.{if◌then◌else◌, Option, Some, None, is_some, IsSome, ℕ, ◌≤◌, ◌<◌, ◌≡◌, ◌⊎◌, Bool, ◌&&◌, List, length, get_or}
 use Rattle.std.proofs.Common.{arith, sym, ap, ◌∙◌, inl, inr, ext_get_or}
 use Rattle.std.proofs.Math.Path.{refl}
 use Rattle.std.proofs.Math.Bool.{true, false}
@@ -8,7 +8,6 @@ use borrow.Author.Tests.{ltb-true, lt-ltb, le-ltb, eq-eqb, ne_eqb}
 use Rattle.laws.specs.Fold.{pick}
 use Rattle.laws.specs.Search.{both}
 use Rattle.laws.specs.Graph.{below_or}
-use Rattle.std.proofs.Math.ListN.{get_or-eq_default}
 use Rattle.laws.specs.Options.{some_if}
 use Rattle.laws.specs.Table.{tabulate, length_tabulate, tabulate_at, table_at}
 use Rattle.model.specs.Sectors.{sector_cells, sector_of, place_of, costs_of}
@@ -19,61 +18,44 @@ use Rattle.model.specs.Portals.{sector_portals, place_portal, is_portal, midpoin
 use Rattle.moves.specs.Levels.{moves_or_none}
 use Rattle.model.specs.PortalCrossings.{Fits, mid_low, mid_sector, mid_place}
 
--- the index of a portal's midpoint
-unfoldable pub mid_of : Hall → ℕ → Option ℕ
-mid_of h p = if is_portal h p then Some (midpoint h p) else None
+-- the index of a portal's midpoint, or 100
+unfoldable pub mid_of : Hall → ℕ → ℕ
+mid_of h p = pick (is_portal h p) (midpoint h p) sector_cells
 
-unfoldable pub sector_mids : Hall → ℕ → List (Option ℕ)
+unfoldable pub sector_mids : Hall → ℕ → List ℕ
 sector_mids h s = tabulate (λ c. mid_of h (place_portal s c)) sector_portals 0
 
 -- the moves to a midpoint, by the moves to the cells of its sector
-unfoldable pub near_by : List ℕ → Option ℕ → Option ℕ
-near_by from None = None
-near_by from (Some mid) = moves_or_none (get_or from mid 0)
+unfoldable pub near_by : List ℕ → ℕ → ℕ
+near_by from mid = pick (ltb mid sector_cells) (get_or from mid 0) apart
 
 -- from cell x to the portals of its sector
 unfoldable pub portal_moves : Hall → ℕ → List (Option ℕ)
-portal_moves h x = tabulate (λ c. near_by (moves (costs_of h.scaled (sector_of x)) (place_of x)) (mid_of h (place_portal (sector_of x) c))) sector_portals 0
+portal_moves h x = tabulate (λ c. moves_or_none (near_by (moves (costs_of h.scaled (sector_of x)) (place_of x)) (mid_of h (place_portal (sector_of x) c)))) sector_portals 0
 
 -- in the cases that code meets
-pub mid_some : (h : Hall) (p : ℕ) {n : ℕ} → is_portal h p ≡ true → n ≡ midpoint h p → Some n ≡ mid_of h p
+pub mid_some : (h : Hall) (p : ℕ) {n : ℕ} → is_portal h p ≡ true → n ≡ midpoint h p → n ≡ mid_of h p
 unfolding mid_of
-mid_some h p e f = rw (e, f) refl
+mid_some h p e f = rw e f
 
-pub mid_none : (h : Hall) (p : ℕ) → is_portal h p ≡ false → None ≡ mid_of h p
+pub mid_none : (h : Hall) (p : ℕ) → is_portal h p ≡ false → sector_cells ≡ mid_of h p
 unfolding mid_of
 mid_none h p e = rw e refl
 
-pub near_none : (from : List ℕ) {mid : Option ℕ} → mid ≡ None → None ≡ near_by from mid
+pub near_none : (from : List ℕ) (mid : ℕ) → sector_cells ≤ mid → apart ≡ near_by from mid
 unfolding near_by
-near_none from e = rw e refl
+near_none from mid l = rw (le-ltb mid sector_cells l)
 
-pub near_some : (from : List ℕ) {mid : Option ℕ} {n : ℕ} → mid ≡ Some n → moves_or_none (get_or from n 0) ≡ near_by from mid
+pub near_some : (from : List ℕ) (mid : ℕ) {n : ℕ} → mid < sector_cells → n ≡ mid → get_or from n 0 ≡ near_by from mid
 unfolding near_by
-near_some from e = rw e refl
+near_some from mid l e = rw (lt-ltb mid sector_cells l, e)
 
--- each midpoint is a cell of a sector
-abbrev pub InSector : List (Option ℕ) → Type 0
-InSector mids = (k : ℕ) → IfSome (get_or mids k None) (λ cell. cell < sector_cells)
+-- the same as code answers it
+pub answer_none : (from : List ℕ) (mid : ℕ) → sector_cells ≤ mid → None ≡ moves_or_none (near_by from mid)
+answer_none from mid l = rw (← near_none from mid l) refl
 
-mid_inside : (h : Hall) → Fits h → (p : ℕ) → IfSome (mid_of h p) (λ cell. cell < sector_cells)
-unfolding mid_of
-mid_inside h fits p = go (is_portal h p) refl
-  where
-    go : (t : Bool) → is_portal h p ≡ t → IfSome (if is_portal h p then Some (midpoint h p) else None) (λ cell. cell < sector_cells)
-    go true e = rw e (mid_low h fits p e)
-    go false e = rw e tt
-
-pub mids_inside : (h : Hall) → Fits h → (s : ℕ) {mids : List (Option ℕ)} → mids ≡ sector_mids h s → InSector mids
-unfolding sector_mids
-mids_inside h fits s {mids} e k = go (below_or k sector_portals)
-  where
-    rule : ℕ → Option ℕ
-    rule c = mid_of h (place_portal s c)
-
-    go : (k < sector_portals) ⊎ (sector_portals ≤ k) → IfSome (get_or mids k None) (λ cell. cell < sector_cells)
-    go (inl l) = rw (table_at rule sector_portals e k None l) (mid_inside h fits (place_portal s k))
-    go (inr l) = rw (get_or-eq_default mids None {n = k} (omega (arith, ap length e, length_tabulate rule sector_portals 0))) tt
+pub answer_some : (from : List ℕ) (mid : ℕ) → mid < sector_cells → moves_or_none (get_or from mid 0) ≡ moves_or_none (near_by from mid)
+answer_some from mid l = ap moves_or_none (near_some from mid l refl)
 
 pub other_sector : (costs : List ℕ) (x y : ℕ) → (sector_of x ≡ sector_of y → ⊥) → apart ≡ pick (joined costs x y) (moves_to costs x y) apart
 unfolding joined
@@ -103,21 +85,18 @@ pub answer_same : (costs : List ℕ) (x y : ℕ) {from : List ℕ} → sector_of
 unfolding joined moves_to
 answer_same costs x y {from} e f = rw (f, eq-eqb (sector_of x) (sector_of y) e) refl
 
--- a list with the rule at each place
-listed : {A : Type 0} (z : A) (rule : ℕ → A) (n : ℕ) {list : List A} → length list ≡ n → ((k : ℕ) → k < n → get_or list k z ≡ rule k) → list ≡ tabulate rule n 0
-listed z rule n {list} l at = ext_get_or z list (tabulate rule n 0) (l ∙ sym (length_tabulate rule n 0)) (λ k b. at k (omega arith) ∙ sym (tabulate_at rule n k z (omega arith)))
-
-pub mids_list : (h : Hall) (s : ℕ) {mids : List (Option ℕ)} → length mids ≡ sector_portals → ((k : ℕ) → k < sector_portals → get_or mids k None ≡ mid_of h (place_portal s k)) → mids ≡ sector_mids h s
-unfolding sector_mids
-mids_list h s l at = listed None (λ c. mid_of h (place_portal s c)) sector_portals l at
-
 -- entries by the moves of the sector and its midpoints
-pub near_list : (h : Hall) (x : ℕ) {from : List ℕ} {mids near : List (Option ℕ)} → from ≡ moves (costs_of h.scaled (sector_of x)) (place_of x) → mids ≡ sector_mids h (sector_of x)
-    → length near ≡ sector_portals → ((k : ℕ) → k < sector_portals → get_or near k None ≡ near_by from (get_or mids k None)) → near ≡ portal_moves h x
+pub near_list : (h : Hall) (x : ℕ) {from mids : List ℕ} {near : List (Option ℕ)} → from ≡ moves (costs_of h.scaled (sector_of x)) (place_of x) → mids ≡ sector_mids h (sector_of x)
+    → length near ≡ sector_portals → ((k : ℕ) → k < sector_portals → get_or near k None ≡ moves_or_none (near_by from (get_or mids k 0))) → near ≡ portal_moves h x
 unfolding sector_mids portal_moves
-near_list h x {from} {mids} e f l at =
-    listed None (λ c. near_by (moves (costs_of h.scaled (sector_of x)) (place_of x)) (mid_of h (place_portal (sector_of x) c))) sector_portals l (λ k b.
-    at k b ∙ rw e (ap (near_by (moves (costs_of h.scaled (sector_of x)) (place_of x))) (table_at (λ c. mid_of h (place_portal (sector_of x) c)) sector_portals f k None b)))
+near_list h x {from} {mids} {near} e f l at =
+    ext_get_or None near (tabulate rule sector_portals 0) (l ∙ sym (length_tabulate rule sector_portals 0)) (λ k b. entry k (omega arith) ∙ sym (tabulate_at rule sector_portals k None (omega arith)))
+  where
+    rule : ℕ → Option ℕ
+    rule c = moves_or_none (near_by (moves (costs_of h.scaled (sector_of x)) (place_of x)) (mid_of h (place_portal (sector_of x) c)))
+
+    entry : (k : ℕ) → k < sector_portals → get_or near k None ≡ rule k
+    entry k b = at k b ∙ rw (e, table_at (λ c. mid_of h (place_portal (sector_of x) c)) sector_portals f k 0 b) refl
 
 -- "joined" goes both ways
 joined_same : (costs : List ℕ) (x y : ℕ) → joined costs y x ≡ joined costs x y
@@ -138,9 +117,9 @@ module _ (h : Hall) (fits : Fits h) (x c : ℕ) (low : c < sector_portals) where
   abbrev number : ℕ
   number = place_portal (sector_of x) c
 
-  entry_is : get_or (portal_moves h x) c None ≡ near_by (moves (costs_of h.scaled (sector_of x)) (place_of x)) (mid_of h number)
+  entry_is : get_or (portal_moves h x) c None ≡ moves_or_none (near_by (moves (costs_of h.scaled (sector_of x)) (place_of x)) (mid_of h number))
   unfolding portal_moves
-  entry_is = tabulate_at (λ d. near_by (moves (costs_of h.scaled (sector_of x)) (place_of x)) (mid_of h (place_portal (sector_of x) d))) sector_portals c None low
+  entry_is = tabulate_at (λ d. moves_or_none (near_by (moves (costs_of h.scaled (sector_of x)) (place_of x)) (mid_of h (place_portal (sector_of x) d)))) sector_portals c None low
 
   none_there : is_portal h number ≡ false → get_or (portal_moves h x) c None ≡ None
   unfolding mid_of near_by
@@ -153,7 +132,8 @@ module _ (h : Hall) (fits : Fits h) (x c : ℕ) (low : c < sector_portals) where
 
   there : is_portal h number ≡ true → There
   unfolding mid_of near_by moves_to
-  there e = record { sector = omega (arith, mid_sector h fits number e); moved = entry_is ∙ rw (e, mid_place h fits number e) refl }
+  there e =
+      record { sector = omega (arith, mid_sector h fits number e); moved = entry_is ∙ rw (e, lt-ltb (midpoint h number) sector_cells (mid_low h fits number e), mid_place h fits number e) refl }
 
   -- THE STARTS AND ENDS: a number's portal is joined to the cell exactly where the entry has moves
   pub start_test : (is_portal h number && joined h.scaled x (mid_cell h number)) ≡ is_some (get_or (portal_moves h x) c None)

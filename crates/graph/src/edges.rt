@@ -1,14 +1,14 @@
 // The edges of the portal graph, as one list of weights by arc number.
-ghost use Rattle.std.specs.Prelude.{◌≡◌, None, IfSome, ◌+◌, ◌*◌, ◌/◌, ◌%◌, ◌≤◌, ◌<◌, length, get_or};
-ghost use Rattle.model.specs.Sectors.{sector_cells, sectors, costs_of};
+ghost use Rattle.std.specs.Prelude.{◌≡◌, ◌+◌, ◌*◌, ◌/◌, ◌%◌, ◌≤◌, ◌<◌, length, get_or};
+ghost use Rattle.model.specs.Sectors.{sectors, costs_of};
 ghost use Rattle.model.specs.Portals.{sector_portals, hall_portals, sector_arcs, portal_count, arc_count, portal_sector, portal_place, outer_edge};
 ghost use Rattle.moves.specs.Levels.{open_words};
 ghost use Rattle.store.specs.Stored.{stored};
 ghost use Rattle.graph.specs.EdgeTable.{Filled, Row, edge_table};
-ghost use Rattle.graph.specs.Near.{sector_mids, InSector};
+ghost use Rattle.graph.specs.Near.{sector_mids};
 ghost use Rattle.graph.specs.Weights.{edge_by};
 
-use crate::near::{moves_from, near_by, sector_mids, sector_words};
+use crate::near::{NO_CROSSING, moves_from, near_by, sector_mids, sector_words};
 use crate::portals::{SECTOR_PORTALS, facing_in, is_portal, portal_sector, portal_side};
 use fields::sectors::{SECTOR_CELLS, neighbour, sectors};
 use moves::spread::Spread;
@@ -37,8 +37,7 @@ fn outer_edge(hall: &Opened<'_>, p: usize) -> u32
 
 // The edge at place c of a portal, or 0: at its own place the edge to the facing one, at another the moves to the midpoint there.
 #[tactic(auto, using(crate::specs::Weights::edge_own))]
-fn edge_at(spread: &Spread, mid: Option<u8>, outer: u32, own: usize, c: usize) -> u32
-    requires { IfSome mid (λ cell. cell < sector_cells) }
+fn edge_at(spread: &Spread, mid: u8, outer: u32, own: usize, c: usize) -> u32
     ensures { result ≡ edge_by spread.now mid outer own c }
 {
     if c == own {
@@ -51,13 +50,12 @@ fn edge_at(spread: &Spread, mid: Option<u8>, outer: u32, own: usize, c: usize) -
 fn fill_places(
     p: usize,
     spread: &Spread,
-    mids: &[Option<u8>; SECTOR_PORTALS],
+    mids: &[u8; SECTOR_PORTALS],
     outer: u32,
     table: &mut [u32],
 )
-    requires places { (p < hall_portals) × (p * sector_portals + sector_portals ≤ length table.old) }
-    requires cells { InSector mids.now }
-    ensures { Row (λ c. edge_by spread.now (get_or mids.now c None) outer (portal_place p) c) p sector_portals table.old table.new }
+    requires { (p < hall_portals) × (p * sector_portals + sector_portals ≤ length table.old) }
+    ensures { Row (λ c. edge_by spread.now (get_or mids.now c 0) outer (portal_place p) c) p sector_portals table.old table.new }
 {
     for (c, mid) in mids.iter().enumerate() {
         table[p * SECTOR_PORTALS + c] = edge_at(spread, *mid, outer, p % SECTOR_PORTALS, c);
@@ -78,7 +76,7 @@ fn clear_places(p: usize, table: &mut [u32])
 fn fill_number(
     hall: &Opened<'_>,
     p: usize,
-    mids: &[Option<u8>; SECTOR_PORTALS],
+    mids: &[u8; SECTOR_PORTALS],
     words: [u64; 2],
     spread: &mut Spread,
     table: &mut [u32],
@@ -87,10 +85,11 @@ fn fill_number(
     requires words { words ≡ open_words (costs_of (stored hall.now).scaled (portal_sector p)) }
     ensures { Filled (stored hall.now) (p * sector_portals + sector_portals) table.new }
 {
-    let Some(mid) = mids[p % SECTOR_PORTALS] else {
+    let mid = mids[p % SECTOR_PORTALS];
+    if NO_CROSSING <= mid {
         clear_places(p, table);
         return;
-    };
+    }
     let cell = portal_sector(p) * SECTOR_CELLS + usize::from(mid);
     moves_from(hall, cell, words, spread);
     fill_places(p, spread, mids, outer_edge(hall, p), table);

@@ -3,10 +3,7 @@ use Rattle.graph.specs.EdgeTable.{row_more, row_all}
 use Rattle.graph.proofs.edges.fill_places.Goals as goal
 
 pub loop-c-preserved : goal.loop-c-preserved
-loop-c-preserved c = row_more c.loop-c.invariant c.loop-c-test.true c.requires.places.1 c.edge_at.ensures
+loop-c-preserved c = row_more c.loop-c.invariant c.loop-c-test.true c.requires.1 c.edge_at.ensures
 
 pub returns : goal.returns
 returns c = row_all c.loop-c.invariant c.loop-c-test.false
-
-pub edge_at-requires : goal.edge_at-requires
-edge_at-requires c = c.requires.cells c.loop-c.c
