@@ -1,14 +1,12 @@
 -- A window by its places, and a mark without its first windows.
-use Rattle.std.specs.Prelude.{ℕ, suc, ◌-◌, ◌*◌, ◌/◌, ◌%◌, ◌^◌}
-use lib.Bits.{bit_and}
-use lib.Count.{ones}
+use Rattle.std.specs.Prelude.{ℕ, suc, bit_and, count_ones, ◌-◌, ◌*◌, ◌/◌, ◌%◌, ◌^◌}
 use Rattle.laws.specs.Fold.{run}
 use Rattle.model.specs.Windows.{first_place, last_place}
 use Rattle.portal.specs.declared.runs.OpenRun.{OpenRun}
 
 -- how many ones of a mark have a zero below them
 abbrev pub starts : ℕ → ℕ
-starts mark = ones (bit_and mark (65535 - mark * 2 % 65536))
+starts mark = count_ones (bit_and mark (65535 - mark * 2 % 65536))
 
 abbrev pub places_of : ℕ → ℕ → OpenRun
 places_of mark j = record { «first» = first_place mark j; last = last_place mark j }
