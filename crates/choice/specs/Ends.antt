@@ -1,5 +1,5 @@
 -- The search from all end portals at once: one node more, the goal, with an arc to each end portal that counts the moves between them.
-use Rattle.std.specs.Prelude.{Option, Some, None, IsSome, unwrap_or, ℕ, ◌+◌, ◌*◌, ◌≤◌, ◌<◌, ◌≡◌, refl, List, [], ◌∷◌, ◌++◌, length, get_or, set}
+use Rattle.std.specs.Prelude.{Option, Some, None, IsSome, unwrap_or, ℕ, ◌+◌, ◌*◌, ◌≤◌, ◌<◌, ◌≡◌, refl, Bool, true, List, [], ◌∷◌, ◌++◌, length, get_or, set}
 use Rattle.std.proofs.Common.{arith}
 use Rattle.laws.specs.Graph.{Graph, Sound, Settled, BothWays, none_less}
 use Rattle.laws.specs.Starts.{starts_graph, Begun, Tried, passed, took, starts_over_one, starts_least}
@@ -18,7 +18,7 @@ end_weight_lem (Some n) e = refl
 end_weight_lem None e = cc
 
 -- an end is tried, in the three cases that code meets
-module _ (v : ℕ) {last : Option ℕ} (d p : List ℕ) where
+module _ (v : ℕ) {last : Option ℕ} (d : List ℕ) (p : List Bool) where
   pub tried_none : last ≡ None → Tried v (end_weight last) d p d p
   unfolding end_weight
   tried_none e = rw e (passed (λ pos. absurd (omega arith)) refl refl)
@@ -28,7 +28,7 @@ module _ (v : ℕ) {last : Option ℕ} (d p : List ℕ) where
     unfolding end_weight
     tried_kept l = rw is (passed (λ pos. l) refl refl)
 
-    pub tried_took : key_step * (moves + 1) < get_or d v 0 → Tried v (end_weight last) d p (set d v (key_step * (moves + 1))) (set p v 1)
+    pub tried_took : key_step * (moves + 1) < get_or d v 0 → Tried v (end_weight last) d p (set d v (key_step * (moves + 1))) (set p v true)
     unfolding end_weight
     tried_took l = rw is (took (omega arith) l refl refl)
 
@@ -43,7 +43,7 @@ abbrev pub ends_graph : Graph → ℕ → List (Option ℕ) → Graph
 ends_graph g q lasts = starts_graph g sector_portals (end_at q) (end_cost lasts)
 
 -- within the goal's turn: its arcs before place k are taken
-abbrev pub EndsBegun : Graph → ℕ → List (Option ℕ) → ℕ → List ℕ → List ℕ → Type 0
+abbrev pub EndsBegun : Graph → ℕ → List (Option ℕ) → ℕ → List ℕ → List Bool → Type 0
 EndsBegun g q lasts k d p = Begun g sector_portals (end_at q) (end_cost lasts) unlinked k d p
 
 -- the keys d from the goal: none is above that of a path over one of the ends, and each is that of such a path

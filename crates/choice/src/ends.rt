@@ -13,7 +13,7 @@ use search::keys::settle;
 use search::queue::Queue;
 
 // The end with number v begins with the moves from there to the goal, if that is less, and then waits.
-fn offer_end(v: usize, last: Option<u8>, keys: &mut [u32], wait: &mut [u8])
+fn offer_end(v: usize, last: Option<u8>, keys: &mut [u32], wait: &mut [bool])
     requires { (v < length keys.old) × (v < length wait.old) }
     ensures tried { Tried v (end_weight last) keys.old wait.old keys.new wait.new }
     ensures light { end_weight last ≤ 1048576 }
@@ -26,11 +26,11 @@ fn offer_end(v: usize, last: Option<u8>, keys: &mut [u32], wait: &mut [u8])
         return;
     }
     keys[v] = w;
-    wait[v] = 1;
+    wait[v] = true;
 }
 
 // The goal's turn: its arcs to the ends of the sector whose first number is q.
-fn offer_ends(q: usize, lasts: &[Option<u8>; SECTOR_PORTALS], keys: &mut [u32], wait: &mut [u8])
+fn offer_ends(q: usize, lasts: &[Option<u8>; SECTOR_PORTALS], keys: &mut [u32], wait: &mut [bool])
     requires { (q + sector_portals ≤ length keys.old) × (length wait.old ≡ length keys.old) }
     ensures begun { (g : Graph) → Sound g → length keys.old ≡ g.nodes → EndsBegun g q lasts.now 0 keys.old wait.old → EndsBegun g q lasts.now sector_portals keys.new wait.new }
     ensures light { (k : ℕ) → k < sector_portals → end_cost lasts.now k ≤ 1048576 }
@@ -45,7 +45,7 @@ pub fn keys_to_goal(edges: Edges, q: usize, lasts: &[Option<u8>; SECTOR_PORTALS]
     requires { (length keys.old ≡ portal_count edges.measures) × (q + sector_portals ≤ portal_count edges.measures) }
     ensures { Nearest (graph_of edges.entry) q lasts.now keys.new }
 {
-    let mut room = [0u8; HALL_PORTALS];
+    let mut room = [false; HALL_PORTALS];
     let wait = &mut room[..keys.len()];
     let mut queue = Queue::new();
     keys.fill(u32::MAX);

@@ -1,8 +1,8 @@
 -- A graph that has the arcs of another and perhaps further ones, none of them from a node of that: a search that takes the smaller graph's arcs serves every such graph.
--- Its lists are those of the smaller graph with o behind, the entries of the further nodes.
+-- Its lists are those of the smaller graph with o and r behind, the entries of the further nodes.
 use Prim.Native.Nat.{ℕ, ◌+◌, ◌≤◌, ◌<◌}
 use Rattle.std.proofs.Common.{arith, sym, ap, subst, ◌∙◌, inl, inr, append-nil}
-use Rattle.std.specs.Prelude.{◌≡◌, refl, ◌⊎◌, List, [], ◌++◌, length, set}
+use Rattle.std.specs.Prelude.{◌≡◌, refl, ◌⊎◌, Bool, true, false, List, [], ◌++◌, length, set}
 use Rattle.std.proofs.Math.ListN.{get_or, get_or-append}
 use Rattle.std.proofs.lemmas.List.{set-append_left}
 use Rattle.laws.specs.Graph.{Graph, Sound, Walk, stay, along, below_or}
@@ -31,26 +31,26 @@ walk_extends {g} {base} ext {s} {c = c} (along {b = b} e l p h w q) =
     along e (omega (arith, ext.more)) pos (ext.heads e l ∙ h) from sum
 
 -- what waited is kept: from lists d and p to lists e and q, whatever the further nodes are
-abbrev pub Keeps : Graph → List ℕ → List ℕ → List ℕ → List ℕ → Type 0
-Keeps base d p e q = (g : Graph) (o : List ℕ) → Extends g base → (s top : ℕ) → Waiting g s top (d ++ o) (p ++ o) → Waiting g s top (e ++ o) (q ++ o)
+abbrev pub Keeps : Graph → List ℕ → List Bool → List ℕ → List Bool → Type 0
+Keeps base d p e q = (g : Graph) (o : List ℕ) (r : List Bool) → Extends g base → (s top : ℕ) → Waiting g s top (d ++ o) (p ++ r) → Waiting g s top (e ++ o) (q ++ r)
 
 -- so it is without further nodes
-pub keeps_itself : {base : Graph} (d p e q : List ℕ) → Sound base → Keeps base d p e q → (s top : ℕ) → Waiting base s top d p → Waiting base s top e q
+pub keeps_itself : {base : Graph} (d : List ℕ) (p : List Bool) (e : List ℕ) (q : List Bool) → Sound base → Keeps base d p e q → (s top : ℕ) → Waiting base s top d p → Waiting base s top e q
 keeps_itself {base} d p e q sound k s top w =
-    let kept = k base [] (extends_itself sound) s top (rw (append-nil d, append-nil p) w) in
-    subst (λ (x : List ℕ). Waiting base s top x q) (append-nil e) (subst (λ (x : List ℕ). Waiting base s top (e ++ []) x) (append-nil q) kept)
+    let kept = k base [] [] (extends_itself sound) s top (rw (append-nil d, append-nil p) w) in
+    subst (λ (x : List ℕ). Waiting base s top x q) (append-nil e) (subst (λ (x : List Bool). Waiting base s top (e ++ []) x) (append-nil q) kept)
 
 -- the same within the turn of node u, from its arc a to its arc b
-abbrev pub Serves : Graph → ℕ → ℕ → List ℕ → List ℕ → ℕ → List ℕ → List ℕ → Type 0
-Serves base u a d p b e q = (g : Graph) (o : List ℕ) → Extends g base → (s top : ℕ) → Serving g s top (d ++ o) (p ++ o) u a → Serving g s top (e ++ o) (q ++ o) u b
+abbrev pub Serves : Graph → ℕ → ℕ → List ℕ → List Bool → ℕ → List ℕ → List Bool → Type 0
+Serves base u a d p b e q = (g : Graph) (o : List ℕ) (r : List Bool) → Extends g base → (s top : ℕ) → Serving g s top (d ++ o) (p ++ r) u a → Serving g s top (e ++ o) (q ++ r) u b
 
 -- the arcs of node u are among those from a to b - 1
 abbrev pub ArcsOf : Graph → ℕ → ℕ → ℕ → Type 0
 ArcsOf g u a b = (e : ℕ) → e < g.arcs → 0 < g.weight e → g.tail e ≡ u → (a ≤ e) × (e < b)
 
-module _ {g base : Graph} (ext : Extends g base) (sound : Sound base) (o : List ℕ) where
+module _ {g base : Graph} (ext : Extends g base) (sound : Sound base) (o : List ℕ) (r : List Bool) where
   -- arc a is the same arc in the larger graph
-  module _ (d p : List ℕ) (numbers : length d ≡ base.nodes) (room : base.nodes ≤ length p) (a : ℕ) (l : a < base.arcs) where
+  module _ (d : List ℕ) (p : List Bool) (numbers : length d ≡ base.nodes) (room : base.nodes ≤ length p) (a : ℕ) (l : a < base.arcs) where
     pub entry : (v : ℕ) → v < base.nodes → get_or (d ++ o) v 0 ≡ get_or d v 0
     entry v k = get_or-append d o 0 v (omega arith)
 
@@ -60,11 +60,11 @@ module _ {g base : Graph} (ext : Extends g base) (sound : Sound base) (o : List 
     pub head_has : 0 < base.weight a → get_or (d ++ o) (g.head a) 0 ≡ get_or d (base.head a) 0
     head_has pos = ap (λ (v : ℕ). get_or (d ++ o) v 0) (ext.heads a l) ∙ entry (base.head a) (sound.head_in a l pos)
 
-    arc_extends : (relaxed g (d ++ o) a ≡ relaxed base d a ++ o) × (awaited g (d ++ o) (p ++ o) a ≡ awaited base d p a ++ o)
+    arc_extends : (relaxed g (d ++ o) a ≡ relaxed base d a ++ o) × (awaited g (d ++ o) (p ++ r) a ≡ awaited base d p a ++ r)
     unfolding awaited
     arc_extends = go (relaxed_cases base d a)
       where
-        go : Relaxed base d a (relaxed base d a) → (relaxed g (d ++ o) a ≡ relaxed base d a ++ o) × (awaited g (d ++ o) (p ++ o) a ≡ awaited base d p a ++ o)
+        go : Relaxed base d a (relaxed base d a) → (relaxed g (d ++ o) a ≡ relaxed base d a ++ o) × (awaited g (d ++ o) (p ++ r) a ≡ awaited base d p a ++ r)
         go (taken pos less _) =
             let v : ℕ = base.head a in
             let x : ℕ = get_or d (base.tail a) 0 + base.weight a in
@@ -73,7 +73,7 @@ module _ {g base : Graph} (ext : Extends g base) (sound : Sound base) (o : List 
             let large = offered g (d ++ o) a (omega (arith, ext.weights a l)) (omega (arith, ext.weights a l, tail_has pos, head_has pos)) in
             let sum : get_or (d ++ o) (g.tail a) 0 + g.weight a ≡ x = omega (arith, ext.weights a l, tail_has pos) in (
               large.1 ∙ rw (ext.heads a l, sum, small.1) (set-append_left d o v x (omega arith)),
-              rw (large.0, small.0, ext.heads a l) (set-append_left p o v 1 (omega arith)),
+              rw (large.0, small.0, ext.heads a l) (set-append_left p r v true (omega arith)),
             )
         go (kept low _) =
             let small = not_offered base d a low in
@@ -92,14 +92,14 @@ module _ {g base : Graph} (ext : Extends g base) (sound : Sound base) (o : List 
         go (inl k) = arcs e k (omega (arith, ext.weights e k)) (sym (ext.tails e k) ∙ q)
         go (inr k) = absurd (omega (arith, ext.others e k l))
 
-    pub turn_begins : {s top : ℕ} (d p : List ℕ) → base.nodes ≤ length p → Waiting g s top (d ++ o) (p ++ o) → Serving g s top (d ++ o) (set p u 0 ++ o) u a
-    turn_begins d p room w = rw (← set-append_left p o u 0 (omega arith)) (serving_none ext.sound w u a (λ e l i q. (both e l i q).0))
+    pub turn_begins : {s top : ℕ} (d : List ℕ) (p : List Bool) → base.nodes ≤ length p → Waiting g s top (d ++ o) (p ++ r) → Serving g s top (d ++ o) (set p u false ++ r) u a
+    turn_begins d p room w = rw (← set-append_left p r u false (omega arith)) (serving_none ext.sound w u a (λ e l i q. (both e l i q).0))
 
-    pub turn_ends : {s top : ℕ} (d p : List ℕ) {c : ℕ} → b ≤ c → Serving g s top (d ++ o) (p ++ o) u c → Waiting g s top (d ++ o) (p ++ o)
+    pub turn_ends : {s top : ℕ} (d : List ℕ) (p : List Bool) {c : ℕ} → b ≤ c → Serving g s top (d ++ o) (p ++ r) u c → Waiting g s top (d ++ o) (p ++ r)
     turn_ends d p past w = serving_all ext.sound w (λ e l i q. omega (arith, (both e l i q).1))
 
-  pub turn_arc : {s top : ℕ} (d p : List ℕ) {u a : ℕ} → length d ≡ base.nodes → base.nodes ≤ length p → a < base.arcs → base.tail a ≡ u
-      → Serving g s top (d ++ o) (p ++ o) u a → Serving g s top (relaxed base d a ++ o) (awaited base d p a ++ o) u (a + 1)
+  pub turn_arc : {s top : ℕ} (d : List ℕ) (p : List Bool) {u a : ℕ} → length d ≡ base.nodes → base.nodes ≤ length p → a < base.arcs → base.tail a ≡ u
+      → Serving g s top (d ++ o) (p ++ r) u a → Serving g s top (relaxed base d a ++ o) (awaited base d p a ++ r) u (a + 1)
   turn_arc d p {a = a} numbers room l from w =
       let same = arc_extends d p numbers room a l in
       rw (← same.0, ← same.1) (serving_arc ext.sound w (omega (arith, ext.more)) (ext.tails a l ∙ from))

@@ -1,7 +1,7 @@
 -- The search from several nodes at once: a graph and one node more, the source, with an arc to each of them.
 use Prim.Native.Nat.{ℕ, ◌+◌, ◌-◌, ◌*◌, ◌≤◌, ◌<◌}
 use native.Mathlib.Omega.{arith}
-use Rattle.std.specs.Prelude.{◌≡◌, refl, ◌⊎◌, ltb}
+use Rattle.std.specs.Prelude.{◌≡◌, refl, ◌⊎◌, Bool, true, false, ltb}
 use Rattle.std.proofs.Common.{sym, subst, ◌∙◌, inl, inr, below_more, lt-ltb, le-ltb}
 use Rattle.std.proofs.Math.Path.{ap}
 use mathlib.Core.List.{List, [], ◌∷◌, ◌++◌}
@@ -26,13 +26,13 @@ starts_graph base count to cost = record {
 }
 
 -- within the source's turn: its arcs before place k are taken
-abbrev pub Begun : Graph → ℕ → (ℕ → ℕ) → (ℕ → ℕ) → ℕ → ℕ → List ℕ → List ℕ → Type 0
-Begun base count to cost top k d p = Serving (starts_graph base count to cost) base.nodes top (d ++ 0 ∷ []) (p ++ 0 ∷ []) base.nodes (base.arcs + k)
+abbrev pub Begun : Graph → ℕ → (ℕ → ℕ) → (ℕ → ℕ) → ℕ → ℕ → List ℕ → List Bool → Type 0
+Begun base count to cost top k d p = Serving (starts_graph base count to cost) base.nodes top (d ++ 0 ∷ []) (p ++ false ∷ []) base.nodes (base.arcs + k)
 
 -- node v is offered c, which is no offer where it is 0: it takes less than it has, and then waits
-pub data Tried (v c : ℕ) (d p e f : List ℕ) : Type 0 where
+pub data Tried (v c : ℕ) (d : List ℕ) (p : List Bool) (e : List ℕ) (f : List Bool) : Type 0 where
   passed : (0 < c → get_or d v 0 ≤ c) → e ≡ d → f ≡ p → Tried v c d p e f
-  took : 0 < c → c < get_or d v 0 → e ≡ set d v c → f ≡ set p v 1 → Tried v c d p e f
+  took : 0 < c → c < get_or d v 0 → e ≡ set d v c → f ≡ set p v true → Tried v c d p e f
 
 module _ (base : Graph) (count : ℕ) (to cost : ℕ → ℕ) where
   abbrev g : Graph
@@ -93,19 +93,19 @@ module _ (base : Graph) (count : ℕ) (to cost : ℕ → ℕ) where
 
     -- ---- the source's turn
     -- nothing is known yet but the source
-    pub starts_none : (top : ℕ) → 0 < top → {d p : List ℕ} {i j : ℕ} → i ≡ base.nodes → j ≡ base.nodes → d ≡ replicate i top → p ≡ replicate j 0 → Begun base count to cost top 0 d p
+    pub starts_none : (top : ℕ) → 0 < top → {d : List ℕ} {p : List Bool} {i j : ℕ} → i ≡ base.nodes → j ≡ base.nodes → d ≡ replicate i top → p ≡ replicate j false → Begun base count to cost top 0 d p
     unfolding outset
     starts_none top pos numbers waits f h =
         let n : ℕ = base.nodes in
         let first : base.arcs + 0 ≡ base.arcs = omega arith in
-        let served : set {A = ℕ} (set {A = ℕ} (replicate (n + 1) 0) n 1) n 0 ≡ replicate n 0 ++ 0 ∷ []
-        = ap (λ (p : List ℕ). set p n 0) (last_set 0 1) ∙ set_at (replicate n 0) 1 [] 0 n (length-replicate {A = ℕ} n 0) in
+        let served : set (set (replicate (n + 1) false) n true) n false ≡ replicate n false ++ false ∷ []
+        = ap (λ (p : List Bool). set p n false) (last_set false true) ∙ set_at (replicate n false) true [] false n (length-replicate n false) in
         rw (f, h, numbers, waits, first, ← last_set top 0, ← served)
         (serving_none starts_sound (waiting_none starts_sound (n + 1) (omega arith) (omega arith) pos) n base.arcs own)
       where
-        last_set : (x y : ℕ) → set (replicate (base.nodes + 1) x) base.nodes y ≡ replicate base.nodes x ++ y ∷ []
-        last_set x y =
-            ap (λ (p : List ℕ). set p base.nodes y) (sym (replicate-append-replicate base.nodes 1 x)) ∙ set_at (replicate base.nodes x) x [] y base.nodes (length-replicate base.nodes x)
+        last_set : {A : Type 0} (x y : A) → set (replicate (base.nodes + 1) x) base.nodes y ≡ replicate base.nodes x ++ y ∷ []
+        last_set {A} x y =
+            ap (λ (p : List A). set p base.nodes y) (sym (replicate-append-replicate base.nodes 1 x)) ∙ set_at (replicate base.nodes x) x [] y base.nodes (length-replicate base.nodes x)
 
         own : (e : ℕ) → e < base.arcs + count → 0 < g.weight e → g.tail e ≡ base.nodes → base.arcs ≤ e
         own =
@@ -114,13 +114,13 @@ module _ (base : Graph) (count : ℕ) (to cost : ℕ → ℕ) where
             (λ k l p q. omega arith)
 
     -- its arc at place k
-    module _ (d p : List ℕ) (numbers : length d ≡ base.nodes) (waits : length p ≡ base.nodes) (k : ℕ) (low : k < count) where
+    module _ (d : List ℕ) (p : List Bool) (numbers : length d ≡ base.nodes) (waits : length p ≡ base.nodes) (k : ℕ) (low : k < count) where
       abbrev arc : ℕ
       arc = base.arcs + k
 
       -- after it
       abbrev After : ℕ → Type 0
-      After top = Serving g base.nodes top (relaxed g (d ++ 0 ∷ []) arc) (awaited g (d ++ 0 ∷ []) (p ++ 0 ∷ []) arc) base.nodes (base.arcs + (k + 1))
+      After top = Serving g base.nodes top (relaxed g (d ++ 0 ∷ []) arc) (awaited g (d ++ 0 ∷ []) (p ++ false ∷ []) arc) base.nodes (base.arcs + (k + 1))
 
       next : {top : ℕ} → Begun base count to cost top k d p → After top
       next w = let sum : base.arcs + (k + 1) ≡ base.arcs + k + 1 = omega arith in rw sum (serving_arc starts_sound w (omega arith) (new_tail k))
@@ -141,7 +141,7 @@ module _ (base : Graph) (count : ℕ) (to cost : ℕ → ℕ) where
           rw (none.0, none.1) at then
 
       -- or the node takes its offer and waits
-      takes : {top : ℕ} → 0 < cost k → cost k < get_or d (to k) 0 → Begun base count to cost top k d p → Begun base count to cost top (k + 1) (set d (to k) (cost k)) (set p (to k) 1)
+      takes : {top : ℕ} → 0 < cost k → cost k < get_or d (to k) 0 → Begun base count to cost top k d p → Begun base count to cost top (k + 1) (set d (to k) (cost k)) (set p (to k) true)
       unfolding awaited
       takes {top} pos less w =
           let some = offered g (d ++ 0 ∷ []) arc (omega (arith, new_weight k)) (omega (arith, new_weight k, source_has, start_has)) in
@@ -149,22 +149,22 @@ module _ (base : Graph) (count : ℕ) (to cost : ℕ → ℕ) where
           let then : After top = next w in
           let in_d : to k < length d = omega (arith, inside k low) in
           let in_p : to k < length p = omega (arith, inside k low) in
-          rw (← set-append_left d (0 ∷ []) (to k) (cost k) in_d, ← set-append_left p (0 ∷ []) (to k) 1 in_p, ← sum, ← new_head k) (rw (some.0, some.1) at then)
+          rw (← set-append_left d (0 ∷ []) (to k) (cost k) in_d, ← set-append_left p (false ∷ []) (to k) true in_p, ← sum, ← new_head k) (rw (some.0, some.1) at then)
 
-      pub starts_more : {top : ℕ} {e f : List ℕ} → Tried (to k) (cost k) d p e f → Begun base count to cost top k d p → Begun base count to cost top (k + 1) e f
+      pub starts_more : {top : ℕ} {e : List ℕ} {f : List Bool} → Tried (to k) (cost k) d p e f → Begun base count to cost top k d p → Begun base count to cost top (k + 1) e f
       starts_more (passed no_less x y) w = rw (x, y) (passes no_less w)
       starts_more (took pos less x y) w = rw (x, y) (takes pos less w)
 
-    module _ {top : ℕ} (d p : List ℕ) where
+    module _ {top : ℕ} (d : List ℕ) (p : List Bool) where
       -- all its arcs are taken
-      pub starts_all : Begun base count to cost top count d p → Waiting g base.nodes top (d ++ 0 ∷ []) (p ++ 0 ∷ [])
+      pub starts_all : Begun base count to cost top count d p → Waiting g base.nodes top (d ++ 0 ∷ []) (p ++ false ∷ [])
       starts_all w = serving_all starts_sound w (λ e l p f. l)
 
       -- nobody waits: the certificate
-      pub starts_over : length p ≡ base.nodes → Waiting g base.nodes top (d ++ 0 ∷ []) (p ++ 0 ∷ []) → ((v : ℕ) → v < base.nodes → get_or p v 0 ≡ 0) → Settled g base.nodes top (d ++ 0 ∷ [])
+      pub starts_over : length p ≡ base.nodes → Waiting g base.nodes top (d ++ 0 ∷ []) (p ++ false ∷ []) → ((v : ℕ) → v < base.nodes → get_or p v false ≡ false) → Settled g base.nodes top (d ++ 0 ∷ [])
       starts_over waits w none =
           waiting_over starts_sound w
-          (below_more (λ (v : ℕ). get_or (p ++ 0 ∷ []) v 0 ≡ 0) base.nodes (λ v l. get_or-append p (0 ∷ []) 0 v (omega arith) ∙ none v l) (get_or_at p 0 [] 0 base.nodes waits))
+          (below_more (λ (v : ℕ). get_or (p ++ false ∷ []) v false ≡ false) base.nodes (λ v l. get_or-append p (false ∷ []) false v (omega arith) ∙ none v l) (get_or_at p false [] false base.nodes waits))
 
     -- ---- what the certificate says
     -- a walk from the source to node v leads over one of its arcs

@@ -1,5 +1,5 @@
 -- What a search over a table of weights is given, and one arc of it as code takes it.
-use Rattle.std.specs.Prelude.{ℕ, ◌+◌, ◌≤◌, ◌<◌, ◌≡◌, refl, List, set}
+use Rattle.std.specs.Prelude.{ℕ, ◌+◌, ◌≤◌, ◌<◌, ◌≡◌, refl, Bool, true, List, set}
 use Rattle.std.proofs.Common.{arith, ◌∙◌}
 use Rattle.std.proofs.Math.Path.{ap}
 use Rattle.std.proofs.Math.ListN.{get_or}
@@ -23,7 +23,7 @@ pub searchable_of : {edges : Edges} {keys wait : ℕ} → Searched edges keys wa
 searchable_of {edges} s = record { numbers = s.numbers; room = s.room; sound = edges.sound; light = edges.light }
 
 -- arc a from u to v with weight w
-module _ (m : Measures) (table d p : List ℕ) (a u : ℕ) (from : u ≡ arc_tail a) where
+module _ (m : Measures) (table d : List ℕ) (p : List Bool) (a u : ℕ) (from : u ≡ arc_tail a) where
   pub skips : get_or table a 0 ≡ 0 → (d ≡ relaxed (table_graph m table) d a) × (p ≡ awaited (table_graph m table) d p a)
   unfolding awaited
   skips z = let x = not_offered (table_graph m table) d a (λ l. absurd (omega arith)) in rw (x.0, x.1) (refl, refl)
@@ -39,7 +39,7 @@ module _ (m : Measures) (table d p : List ℕ) (a u : ℕ) (from : u ≡ arc_tai
         rw (x.0, x.1) (refl, refl)
 
     pub accepts : 0 < get_or table a 0 → get_or d u 0 + get_or table a 0 < get_or d v 0
-        → (set d v (get_or d u 0 + get_or table a 0) ≡ relaxed (table_graph m table) d a) × (set p v 1 ≡ awaited (table_graph m table) d p a)
+        → (set d v (get_or d u 0 + get_or table a 0) ≡ relaxed (table_graph m table) d a) × (set p v true ≡ awaited (table_graph m table) d p a)
     unfolding awaited
     accepts pos l =
         let x = offered (table_graph m table) d a pos (omega (arith, ap (λ (y : ℕ). get_or d y 0) head_is, ap (λ (y : ℕ). get_or d y 0) from)) in

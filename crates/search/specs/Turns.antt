@@ -1,5 +1,5 @@
 -- The turn of a portal whose edges within its sector offer nothing: the arc to the facing portal is all of it.
-use Rattle.std.specs.Prelude.{ℕ, ◌+◌, ◌*◌, ◌≤◌, ◌<◌, ◌≡◌, ◌≢◌, List, length, get_or}
+use Rattle.std.specs.Prelude.{ℕ, ◌+◌, ◌*◌, ◌≤◌, ◌<◌, ◌≡◌, ◌≢◌, Bool, List, length, get_or}
 use Rattle.std.proofs.Common.{arith, ap, ◌∙◌}
 use Rattle.laws.specs.Relaxing.{relaxed}
 use Rattle.laws.specs.Waiting.{awaited}
@@ -24,7 +24,7 @@ Offerless table keys u n = (c : ℕ) → c < n → 0 < get_or table (arc_at u c)
 abbrev pub own_arc : ℕ → ℕ
 own_arc u = arc_at u (portal_place u)
 
-module _ {edges : Edges} (d p : List ℕ) (u : ℕ) (given : Searched edges (length d) (length p)) (l : u < portal_count edges.measures) (none : Offerless edges.weights.now d u sector_portals) where
+module _ {edges : Edges} (d : List ℕ) (p : List Bool) (u : ℕ) (given : Searched edges (length d) (length p)) (l : u < portal_count edges.measures) (none : Offerless edges.weights.now d u sector_portals) where
   -- another arc of u offers nothing
   other : (e : ℕ) → 0 < get_or edges.weights.now e 0 → arc_tail e ≡ u → e ≢ own_arc u → get_or d ((graph_of edges).head e) 0 ≤ get_or d u 0 + get_or edges.weights.now e 0
   other e q t n =

@@ -1,5 +1,4 @@
 // The least keys of paths to one portal: a search that serves waiting portals in the order in which they came to wait.
-// Who waits has 1 in a list of numbers, since the laws of the search (`awaited`, `Lined`) speak of such a list.
 // Keys, waits and queue stay three parameters: as fields of one struct each method would have to say that the two lent lists stay the same.
 ghost use Rattle.std.specs.Prelude.{◌≡◌, ◌↔◌, false, IsTrue, ℕ, ◌+◌, ◌*◌, ◌/◌, ◌≤◌, ◌<◌, length, get_or};
 ghost use Rattle.laws.specs.Relaxing.{relaxed};
@@ -17,7 +16,7 @@ use graph::portals::{HALL_PORTALS, SECTOR_PORTALS, head_of};
 use graph::table::Edges;
 
 // Arc a of portal u: its head takes the offer, if that is less, and then waits.
-fn offer(edges: Edges, u: usize, a: usize, keys: &mut [u32], wait: &mut [u8], queue: &mut Queue)
+fn offer(edges: Edges, u: usize, a: usize, keys: &mut [u32], wait: &mut [bool], queue: &mut Queue)
     requires { Searched edges (length keys.old) (length wait.old) × (a < arc_count edges.measures) × (u ≡ arc_tail a) }
     ensures taken { (keys.new ≡ relaxed (graph_of edges.entry) keys.old a) × (wait.new ≡ awaited (graph_of edges.entry) keys.old wait.old a) }
     ensures head { queue.new.head ≡ queue.old.head }
@@ -37,8 +36,8 @@ fn offer(edges: Edges, u: usize, a: usize, keys: &mut [u32], wait: &mut [u8], qu
     }
     let waited = wait[v];
     keys[v] = key + w;
-    wait[v] = 1;
-    if waited == 0 {
+    wait[v] = true;
+    if !waited {
         queue.push(v);
     }
 }
@@ -65,7 +64,7 @@ fn offers_inside(edges: Edges, u: usize, keys: &[u32]) -> bool
 }
 
 // The arcs of number u in turn.
-fn take_arcs(edges: Edges, u: usize, keys: &mut [u32], wait: &mut [u8], queue: &mut Queue)
+fn take_arcs(edges: Edges, u: usize, keys: &mut [u32], wait: &mut [bool], queue: &mut Queue)
     requires { Searched edges (length keys.old) (length wait.old) × (u < portal_count edges.measures) }
     ensures served { Served (graph_of edges.entry) u (u * sector_portals) keys.old wait.old keys.new wait.new }
     ensures head { queue.new.head ≡ queue.old.head }
@@ -76,7 +75,7 @@ fn take_arcs(edges: Edges, u: usize, keys: &mut [u32], wait: &mut [u8], queue: &
 }
 
 // All arcs of number u that offer something: those of its places, or only the one to the facing portal where no other offers anything.
-fn take_turn(edges: Edges, u: usize, keys: &mut [u32], wait: &mut [u8], queue: &mut Queue)
+fn take_turn(edges: Edges, u: usize, keys: &mut [u32], wait: &mut [bool], queue: &mut Queue)
     requires { Searched edges (length keys.old) (length wait.old) × (u < portal_count edges.measures) }
     ensures served { Served (graph_of edges.entry) u (u * sector_portals) keys.old wait.old keys.new wait.new }
     ensures head { queue.new.head ≡ queue.old.head }
@@ -90,7 +89,7 @@ fn take_turn(edges: Edges, u: usize, keys: &mut [u32], wait: &mut [u8], queue: &
 }
 
 // The turn of number u, if it waits.
-fn serve(edges: Edges, u: usize, keys: &mut [u32], wait: &mut [u8], queue: &mut Queue)
+fn serve(edges: Edges, u: usize, keys: &mut [u32], wait: &mut [bool], queue: &mut Queue)
     requires { Searched edges (length keys.old) (length wait.old) }
     ensures kept { Keeps (graph_of edges.entry) keys.old wait.old keys.new wait.new }
     ensures turn { Turned (length keys.old) u keys.old wait.old keys.new wait.new }
@@ -99,15 +98,15 @@ fn serve(edges: Edges, u: usize, keys: &mut [u32], wait: &mut [u8], queue: &mut 
     if keys.len() <= u {
         return;
     }
-    if wait[u] == 0 {
+    if !wait[u] {
         return;
     }
-    wait[u] = 0;
+    wait[u] = false;
     take_turn(edges, u, keys, wait, queue);
 }
 
 // The numbers of the queue have their turns in its order, and so have those that come to it meanwhile.
-fn drain(edges: Edges, keys: &mut [u32], wait: &mut [u8], queue: &mut Queue)
+fn drain(edges: Edges, keys: &mut [u32], wait: &mut [bool], queue: &mut Queue)
     requires lists { Searched edges (length keys.old) (length wait.old) }
     requires lined { Lined (length keys.old) wait.old queue.old.numbers queue.old.end × (queue.old.head ≡ 0) × (0 < queue.old.end) }
     ensures kept { Keeps (graph_of edges.entry) keys.old wait.old keys.new wait.new }
@@ -119,11 +118,11 @@ fn drain(edges: Edges, keys: &mut [u32], wait: &mut [u8], queue: &mut Queue)
 }
 
 // The queue is served, and then what waits again, until no number waits.
-pub fn settle(edges: Edges, keys: &mut [u32], wait: &mut [u8], queue: &mut Queue)
+pub fn settle(edges: Edges, keys: &mut [u32], wait: &mut [bool], queue: &mut Queue)
     requires lists { Searched edges (length keys.old) (length wait.old) }
     requires lined { Lined (length keys.old) wait.old queue.old.numbers queue.old.end × (queue.old.head ≡ 0) }
     ensures kept { Keeps (graph_of edges.entry) keys.old wait.old keys.new wait.new }
-    ensures over { (v : ℕ) → v < length keys.old → get_or wait.new v 0 ≡ 0 }
+    ensures over { (v : ℕ) → v < length keys.old → get_or wait.new v false ≡ false }
 {
     while !queue.is_empty() {
         drain(edges, keys, wait, queue);
@@ -136,11 +135,11 @@ pub fn keys_to(edges: Edges, e: usize, keys: &mut [u32])
     requires { (length keys.old ≡ portal_count edges.measures) × (e < portal_count edges.measures) }
     ensures { keys.new ≡ keys_to (graph_of edges.entry) e }
 {
-    let mut wait = [0u8; HALL_PORTALS];
+    let mut wait = [false; HALL_PORTALS];
     let mut queue = Queue::new();
     keys.fill(u32::MAX);
     keys[e] = 0;
-    wait[e] = 1;
+    wait[e] = true;
     queue.push(e);
     settle(edges, keys, &mut wait, &mut queue);
 }

@@ -60,13 +60,13 @@ impl Queue {
     }
 
     // The numbers below n that wait make up the queue.
-    pub fn refill(&mut self, n: usize, wait: &[u8])
+    pub fn refill(&mut self, n: usize, wait: &[bool])
         requires { (n ≤ QUEUE_ROOM) × (n ≤ length wait.now) }
         ensures { Lined n wait.now self.new.numbers self.new.end × (self.new.head ≡ 0) }
     {
         let mut end = 0;
         for u in 0..n {
-            if wait[u] != 0 {
+            if wait[u] {
                 self.numbers[end] = u as u16;
                 end += 1;
             }

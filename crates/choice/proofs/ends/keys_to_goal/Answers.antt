@@ -3,6 +3,7 @@ use native.Mathlib.Omega.{arith}
 use mathlib.Core.Path.{◌≡◌, ap, ◌∙◌}
 use Prim.Native.Nat.{ℕ}
 use Rattle.std.proofs.lemmas.List.{take-replicate, length-replicate}
+use mathlib.Core.Bool.{Bool, false}
 use mathlib.Core.List.{[], ◌∷◌}
 use lib.ListN.{length}
 use Rattle.model.specs.LeastPath.{unlinked}
@@ -20,11 +21,11 @@ returns c =
     let to = end_at c.args.q in
     let cost = end_cost c.args.lasts.now in
     let numbers : length c.offer_ends.new.keys ≡ portal_count edges.measures = c.offer_ends.auto.keys ∙ c.fill.ensures.len ∙ c.requires.0 in
-    let zeros = take-replicate {X = ℕ} (length c.args.keys.now) hall_portals 0 (omega (arith, edges.few)) in
-    let waits : length c.offer_ends.new.wait ≡ portal_count edges.measures = c.offer_ends.auto.wait ∙ ap length zeros ∙ length-replicate {A = ℕ} (length c.args.keys.now) 0 ∙ c.requires.0 in
+    let zeros = take-replicate {X = Bool} (length c.args.keys.now) hall_portals false (omega (arith, edges.few)) in
+    let waits : length c.offer_ends.new.wait ≡ portal_count edges.measures = c.offer_ends.auto.wait ∙ ap length zeros ∙ length-replicate {A = Bool} (length c.args.keys.now) false ∙ c.requires.0 in
     let begun = starts_none g sector_portals to cost sound (λ j l. omega arith) unlinked (omega arith) c.requires.0 c.requires.0 (c.fill.ensures.after (λ y e. e)) zeros in
     let waiting = starts_all g sector_portals to cost sound (λ j l. omega arith) c.offer_ends.new.keys c.offer_ends.new.wait (c.offer_ends.ensures.begun g sound (c.fill.ensures.len ∙ c.requires.0) begun) in
-    let kept = c.settle.ensures.kept (ends_graph g c.args.q c.args.lasts.now) (0 ∷ []) (starts_extends g sector_portals to cost sound (λ j l. omega arith)) g.nodes unlinked waiting in
+    let kept = c.settle.ensures.kept (ends_graph g c.args.q c.args.lasts.now) (0 ∷ []) (false ∷ []) (starts_extends g sector_portals to cost sound (λ j l. omega arith)) g.nodes unlinked waiting in
     let settled =
     starts_over g sector_portals to cost sound (λ j l. omega arith) c.settle.new.keys c.settle.new.wait (c.settle.auto.wait ∙ waits) kept (λ v l. c.settle.ensures.over v (omega (arith, numbers))) in
     ends_nearest c.args.q c.args.lasts.now c.settle.new.keys c.offer_ends.ensures.light sound edges.both_ways (omega (arith, edges.few)) edges.light c.requires.1 (c.settle.auto.keys ∙ numbers) settled

@@ -12,8 +12,8 @@ returns-then-old-w-clause-taken c = declines _ _ _ _ _ _ c.requires.2 _ c.head_o
 pub returns-then-old-w-2-clause-taken : goal.returns-then-old-w-2-clause-taken
 returns-then-old-w-2-clause-taken c = declines _ _ _ _ _ _ c.requires.2 _ c.head_of-v.ensures (omega arith)
 
-pub returns-then-waited-eq0-clause-taken : goal.returns-then-waited-eq0-clause-taken
-returns-then-waited-eq0-clause-taken c = accepts _ _ _ _ _ _ c.requires.2 _ c.head_of-v.ensures (omega arith) (omega arith)
+pub returns-then-not-waited-clause-taken : goal.returns-then-not-waited-clause-taken
+returns-then-not-waited-clause-taken c = accepts _ _ _ _ _ _ c.requires.2 _ c.head_of-v.ensures (omega arith) (omega arith)
 
-pub returns-else-waited-eq0-clause-taken : goal.returns-else-waited-eq0-clause-taken
-returns-else-waited-eq0-clause-taken c = accepts _ _ _ _ _ _ c.requires.2 _ c.head_of-v.ensures (omega arith) (omega arith)
+pub returns-else-not-waited-clause-taken : goal.returns-else-not-waited-clause-taken
+returns-else-not-waited-clause-taken c = accepts _ _ _ _ _ _ c.requires.2 _ c.head_of-v.ensures (omega arith) (omega arith)

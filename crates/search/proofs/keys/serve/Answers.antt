@@ -9,10 +9,10 @@ use Rattle.search.proofs.keys.serve.Goals as goal
 
 pub returns-clause-kept : goal.returns-clause-kept
 returns-clause-kept c =
-    λ g o ext s top w.
-    c.take_turn.ensures.served.done g o ext s top
-    (turn_begins ext c.args.edges.sound o (omega arith) (arcs_of c.args.edges c.args.u) c.args.keys.now c.args.wait.now c.requires.room w)
+    λ g o r ext s top w.
+    c.take_turn.ensures.served.done g o r ext s top
+    (turn_begins ext c.args.edges.sound o r (omega arith) (arcs_of c.args.edges c.args.u) c.args.keys.now c.args.wait.now c.requires.room w)
 
 pub returns-clause-turn : goal.returns-clause-turn
 returns-clause-turn c =
-    turned_less (lt_of_le_of_lt c.take_turn.ensures.served.light (work_served c.args.keys.now c.args.wait.now c.args.u (omega arith) (omega arith)))
+    turned_less (lt_of_le_of_lt c.take_turn.ensures.served.light (work_served c.args.keys.now c.args.wait.now c.args.u (omega arith) c.if-not-wait-u.false))

@@ -3,4 +3,4 @@ use Rattle.search.proofs.keys.settle.Goals as goal
 
 pub loop-edges-preserved : goal.loop-edges-preserved
 loop-edges-preserved c =
-    (c.refill.ensures.0, c.refill.ensures.1, λ g o ext s top w. c.drain.ensures.kept g o ext s top (c.loop-edges.invariant.2 g o ext s top w))
+    (c.refill.ensures.0, c.refill.ensures.1, λ g o r ext s top w. c.drain.ensures.kept g o r ext s top (c.loop-edges.invariant.2 g o r ext s top w))

@@ -17,14 +17,14 @@ loop-a-preserved c =
     let numbers : length c.loop-a.keys ≡ portal_count c.args.edges.measures = c.loop-a.auto.keys ∙ c.requires.0.numbers in
     let room : portal_count c.args.edges.measures ≤ length c.loop-a.wait = omega arith in (
       c.offer.ensures.head ∙ c.loop-a.invariant.0,
-      λ g o ext s top w.
-          rw (took.0, took.1) (turn_arc ext c.args.edges.sound o c.loop-a.keys c.loop-a.wait numbers room in_arcs (omega arith) (c.loop-a.invariant.1 g o ext s top w)),
+      λ g o r ext s top w.
+          rw (took.0, took.1) (turn_arc ext c.args.edges.sound o r c.loop-a.keys c.loop-a.wait numbers room in_arcs (omega arith) (c.loop-a.invariant.1 g o r ext s top w)),
       rw (took.0, took.1) (le_trans (work_arc c.args.edges.sound c.loop-a.keys c.loop-a.wait c.loop-a.a numbers room in_arcs) c.loop-a.invariant.2),
     )
 
 pub returns-clause-served : goal.returns-clause-served
 returns-clause-served c = record {
-  done = λ g o ext s top w.
-      turn_ends ext c.args.edges.sound o c.requires.1 (arcs_of c.args.edges c.args.u) c.loop-a.keys c.loop-a.wait c.loop-a-test.false (c.loop-a.invariant.1 g o ext s top w);
+  done = λ g o r ext s top w.
+      turn_ends ext c.args.edges.sound o r c.requires.1 (arcs_of c.args.edges c.args.u) c.loop-a.keys c.loop-a.wait c.loop-a-test.false (c.loop-a.invariant.1 g o r ext s top w);
   light = c.loop-a.invariant.2;
 }
