@@ -50,6 +50,6 @@ pub fn keys_to_goal(edges: Edges, q: usize, lasts: &[Option<u8>; SECTOR_PORTALS]
     let mut queue = Queue::new();
     keys.fill(u32::MAX);
     offer_ends(q, lasts, keys, wait);
-    queue.refill(keys.len(), wait);
+    queue.refill(wait);
     settle(edges, keys, wait, &mut queue);
 }

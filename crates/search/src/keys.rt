@@ -126,7 +126,7 @@ pub fn settle(edges: Edges, keys: &mut [u32], wait: &mut [bool], queue: &mut Que
 {
     while !queue.is_empty() {
         drain(edges, keys, wait, queue);
-        queue.refill(keys.len(), wait);
+        queue.refill(&wait[..keys.len()]);
     }
 }
 

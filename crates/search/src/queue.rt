@@ -59,19 +59,17 @@ impl Queue {
         Some(usize::from(u))
     }
 
-    // The numbers below n that wait make up the queue.
-    pub fn refill(&mut self, n: usize, wait: &[bool])
-        requires { (n ≤ QUEUE_ROOM) × (n ≤ length wait.now) }
-        ensures { Lined n wait.now self.new.numbers self.new.end × (self.new.head ≡ 0) }
+    // The numbers that wait make up the queue.
+    pub fn refill(&mut self, wait: &[bool])
+        requires { length wait.now ≤ QUEUE_ROOM }
+        ensures { Lined (length wait.now) wait.now self.new.numbers self.new.end × (self.new.head ≡ 0) }
     {
-        let mut end = 0;
-        for u in 0..n {
-            if wait[u] {
-                self.numbers[end] = u as u16;
-                end += 1;
+        self.head = 0;
+        self.end = 0;
+        for (u, waits) in wait.iter().enumerate() {
+            if *waits {
+                self.push(u);
             }
         }
-        self.head = 0;
-        self.end = end;
     }
 }
