@@ -66,8 +66,6 @@ KEPT = {
     "laws/specs/Table.antt:tabled_fill": UNCITED,
     "laws/specs/Turns.antt:turned_none": UNCITED,
     "laws/specs/Turns.antt:lined_none": UNCITED,
-    "laws/specs/Turns.antt:lined_skip": UNCITED,
-    "laws/specs/Turns.antt:lined_take": UNCITED,
     "laws/specs/Turns.antt:lined_alone": UNCITED,
     "laws/specs/Turns.antt:searchable_in": UNCITED,
     "model/specs/CostsRead.antt:open_off": UNCITED,

@@ -10,7 +10,6 @@ use graph::edges::KEY_STEP;
 use graph::portals::{HALL_PORTALS, SECTOR_PORTALS};
 use graph::table::Edges;
 use search::keys::settle;
-use search::queue::Queue;
 
 // The end with number v begins with the moves from there to the goal, if that is less, and then waits.
 fn offer_end(v: usize, last: Option<u8>, keys: &mut [u32], wait: &mut [bool])
@@ -47,9 +46,7 @@ pub fn keys_to_goal(edges: Edges, q: usize, lasts: &[Option<u8>; SECTOR_PORTALS]
 {
     let mut room = [false; HALL_PORTALS];
     let wait = &mut room[..keys.len()];
-    let mut queue = Queue::new();
     keys.fill(u32::MAX);
     offer_ends(q, lasts, keys, wait);
-    queue.refill(wait);
-    settle(edges, keys, wait, &mut queue);
+    settle(edges, keys, wait);
 }

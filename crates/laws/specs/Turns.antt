@@ -1,8 +1,8 @@
 -- A search serves the nodes of a queue: what it is given, what a turn leaves, and what is known of the queue. The graph is any graph, of any size.
-use Rattle.std.specs.Prelude.{ℕ, ◌+◌, ◌≤◌, ◌<◌, ◌≡◌, refl, ◌⊎◌, ◌≢◌, Bool, true, false, List, ◌++◌, length, get_or, set, take, replicate}
+use Rattle.std.specs.Prelude.{ℕ, ◌+◌, ◌≤◌, ◌<◌, ◌≡◌, refl, ◌⊎◌, ◌≢◌, Bool, true, false, List, ◌++◌, length, get_or, set, replicate}
 use Rattle.std.proofs.Math.Decide.{ℕ_discrete}
 use Rattle.std.proofs.Common.{arith, sym, ap, ◌∙◌, inl, inr, length-set, get_or-set_same, get_or-set_other, below_more}
-use Rattle.std.proofs.lemmas.List.{length-replicate, length-take-le, get_or-take}
+use Rattle.std.proofs.lemmas.List.{length-replicate}
 use Rattle.laws.specs.Graph.{Graph, Sound, below_or}
 use Rattle.laws.specs.Relaxing.{relaxed, outset, relaxed_cases, Relaxed, taken, kept, set_each}
 use Rattle.laws.specs.Waiting.{Waiting, Serving, Held, awaited, work, work_arc, waiting_none}
@@ -138,17 +138,6 @@ module _ {n t : ℕ} {wait : List Bool} {queue : List ℕ} (so_far : Lined n wai
       go : Dec (t ≡ 0) → (get_or (set queue t n) 0 0 < n + 1) × (get_or wait (get_or (set queue t n) 0 0) false ≡ true)
       go (yes e) = rw (e, get_or-set_same queue 0 n 0 (omega arith)) (omega arith, h)
       go (no e) = rw (get_or-set_other queue t 0 n 0 (λ z. e (sym z))) (omega (arith, so_far.low (omega arith)), so_far.waits (omega arith))
-
--- what waits beyond the n nodes does not matter
-pub lined_front : {n t : ℕ} {wait : List Bool} {queue : List ℕ} → n ≤ length wait → Lined (length (take n wait)) (take n wait) queue t → Lined n wait queue t
-lined_front {n} {wait = wait} {queue} long lined =
-    let front = rw (length-take-le n wait long) at lined in
-    record {
-      few = front.few;
-      none = λ e v l. sym (get_or-take n wait v false l) ∙ front.none e v l;
-      low = front.low;
-      waits = λ l. sym (get_or-take n wait (get_or queue 0 0) false (front.low l)) ∙ front.waits l;
-    }
 
 -- a queue of one
 pub lined_alone : {n e w : ℕ} {wait : List Bool} {queue : List ℕ} (q : List ℕ) → e < n → e < w → 0 < length q → wait ≡ set (replicate w false) e true → queue ≡ set q 0 e → Lined n wait queue 1

@@ -117,16 +117,15 @@ fn drain(edges: Edges, keys: &mut [u32], wait: &mut [bool], queue: &mut Queue)
     }
 }
 
-// The queue is served, and then what waits again, until no number waits.
-pub fn settle(edges: Edges, keys: &mut [u32], wait: &mut [bool], queue: &mut Queue)
-    requires lists { Searched edges (length keys.old) (length wait.old) }
-    requires lined { Lined (length keys.old) wait.old queue.old.numbers queue.old.end × (queue.old.head ≡ 0) }
+// What waits is served, and then what waits again, until no number waits.
+pub fn settle(edges: Edges, keys: &mut [u32], wait: &mut [bool])
+    requires { Searched edges (length keys.old) (length wait.old) }
     ensures kept { Keeps (graph_of edges.entry) keys.old wait.old keys.new wait.new }
     ensures over { (v : ℕ) → v < length keys.old → get_or wait.new v false ≡ false }
 {
-    while !queue.is_empty() {
-        drain(edges, keys, wait, queue);
-        queue.refill(&wait[..keys.len()]);
+    let mut queue = Queue::new();
+    while queue.refill(&wait[..keys.len()]) {
+        drain(edges, keys, wait, &mut queue);
     }
 }
 
@@ -136,10 +135,8 @@ pub fn keys_to(edges: Edges, e: usize, keys: &mut [u32])
     ensures { keys.new ≡ keys_to (graph_of edges.entry) e }
 {
     let mut wait = [false; HALL_PORTALS];
-    let mut queue = Queue::new();
     keys.fill(u32::MAX);
     keys[e] = 0;
     wait[e] = true;
-    queue.push(e);
-    settle(edges, keys, &mut wait, &mut queue);
+    settle(edges, keys, &mut wait);
 }

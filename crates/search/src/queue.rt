@@ -59,10 +59,12 @@ impl Queue {
         Some(usize::from(u))
     }
 
-    // The numbers that wait make up the queue.
-    pub fn refill(&mut self, wait: &[bool])
+    // The numbers that wait make up the queue. Whether there is any.
+    #[tactic(auto, using(laws::specs::Turns::lined_skip, laws::specs::Turns::lined_take))]
+    pub fn refill(&mut self, wait: &[bool]) -> bool
         requires { length wait.now ≤ QUEUE_ROOM }
-        ensures { Lined (length wait.now) wait.now self.new.numbers self.new.end × (self.new.head ≡ 0) }
+        ensures lined { Lined (length wait.now) wait.now self.new.numbers self.new.end × (self.new.head ≡ 0) }
+        ensures some { IsTrue result ↔ 0 < self.new.end }
     {
         self.head = 0;
         self.end = 0;
@@ -71,5 +73,6 @@ impl Queue {
                 self.push(u);
             }
         }
+        !self.is_empty()
     }
 }

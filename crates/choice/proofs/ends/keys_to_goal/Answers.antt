@@ -1,7 +1,6 @@
 -- `keys_to_goal` has the goal's turn, then those of all that wait: the list is then certified for the graph with the goal.
 use native.Mathlib.Omega.{arith}
 use mathlib.Core.Path.{◌≡◌, ap, ◌∙◌}
-use Prim.Native.Nat.{ℕ}
 use Rattle.std.proofs.lemmas.List.{take-replicate, length-replicate}
 use mathlib.Core.Bool.{Bool, false}
 use mathlib.Core.List.{[], ◌∷◌}

@@ -1,12 +1,12 @@
 -- `keys_to` ends in the least keys: at the outset the end portal waits, and where nobody does the list is certified.
 use native.Mathlib.Omega.{arith}
-use mathlib.Core.Path.{◌≡◌, ap, refl, ◌∙◌}
+use mathlib.Core.Path.{ap, refl}
 use mathlib.Core.List.{List}
 use Prim.Native.Nat.{ℕ, ◌≤◌}
 use lib.ListN.{set, length-set}
 use Rattle.laws.specs.Waiting.{waiting_over}
 use Rattle.laws.specs.Extending.{keeps_itself}
-use Rattle.laws.specs.Turns.{begins, lined_alone}
+use Rattle.laws.specs.Turns.{begins}
 use Rattle.model.specs.Portals.{hall_portals, portal_count}
 use Rattle.search.specs.Searching.{searchable_of}
 use Rattle.search.specs.Keys.{keys_found}
@@ -17,19 +17,7 @@ room : (c : Start) → portal_count c.args.edges.measures ≤ hall_portals
 room c = omega (arith, c.args.edges.few)
 
 pub settle-requires : goal.settle-requires
-settle-requires c =
-    let low = room (goal.at.settle-requires c).Start in
-    let began = c.new-queue.ensures in
-    let added = c.push.ensures.added (omega arith) in
-    let one : c.push.new.self.end ≡ 1 = omega arith in
-    let first : c.push.new.self.numbers ≡ set c.new-queue.result.numbers 0 c.args.e = rw began.1 at added.1 in
-    record {
-      lists = rw (length-set, length-set, c.fill.ensures.len) (record { numbers = c.requires.0; room = low });
-      lined = (
-        rw (one, length-set, c.fill.ensures.len) (lined_alone {w = hall_portals} c.new-queue.result.numbers (omega arith) (omega arith) (omega arith) refl first),
-        c.push.ensures.same ∙ began.0,
-      );
-    }
+settle-requires c = rw (length-set, length-set, c.fill.ensures.len) (record { numbers = c.requires.0; room = room (goal.at.settle-requires c).Start })
 
 pub returns : goal.returns
 returns c =
