@@ -54,10 +54,10 @@ path g rank d zero u = u ∷ []
 path g rank d (suc n) u = elim (eqb (get_or d u 0) 0) [ true ↦ u ∷ [] | false ↦ u ∷ path g rank d n (next g rank d u g.arcs) ]
 
 -- ---- the laws
-record Tight (g : Graph) (d : List ℕ) (u e : ℕ) : Type 0 where
-  leaves : g.tail e ≡ u
-  real : 0 < g.weight e
-  exact : get_or d u 0 ≡ get_or d (g.head e) 0 + g.weight e
+pub record Tight (g : Graph) (d : List ℕ) (u e : ℕ) : Type 0 where
+  pub leaves : g.tail e ≡ u
+  pub real : 0 < g.weight e
+  pub exact : get_or d u 0 ≡ get_or d (g.head e) 0 + g.weight e
 
 tight_is : (g : Graph) (d : List ℕ) (u e : ℕ) → tight g d u e ≡ true → Tight g d u e
 unfolding tight

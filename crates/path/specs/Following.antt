@@ -1,5 +1,6 @@
 -- What the walk along a least path is given, and where its arcs lead.
-use Rattle.std.specs.Prelude.{ℕ, ◌+◌, ◌-◌, ◌*◌, ◌≤◌, ◌<◌, ◌≡◌, refl, Bool, true, false, Option, None, Some, IsSome, IfSome, List, ◌++◌, ltb, get_or, set}
+use Rattle.std.specs.Prelude.{ℕ, ◌+◌, ◌-◌, ◌*◌, ◌≤◌, ◌<◌, ◌≡◌, refl, Bool, true, false, Option, None, Some, IsSome, IfSome, MatchOption, List, ◌++◌, ltb, get_or, set}
+use Rattle.std.specs.Bool.{then_some}
 use Rattle.std.specs.Option.{unwrap_or}
 use native.Mathlib.Omega.{arith}
 use Rattle.std.proofs.Math.Path.{sym, subst}
@@ -7,7 +8,7 @@ use Rattle.std.proofs.Common.{ap, ◌∙◌, eq-eqb, ne_eqb}
 use Rattle.std.proofs.lemmas.Bool.{false≢true}
 use Rattle.std.proofs.Math.ListN.{length, drop}
 use Rattle.laws.specs.Graph.{Graph, Settled, turned}
-use Rattle.laws.specs.FirstPath.{better, closer, next, path}
+use Rattle.laws.specs.FirstPath.{Tight, better, closer, next, path}
 use Rattle.laws.specs.Keys.{few_edges}
 use Rattle.laws.specs.Tracing.{next_skip, next_take, next_same, Tracing, tracing_none, tracing_node, tracing_room, tracing_over, tracing_more}
 use Rattle.model.specs.declared.Side.{Side}
@@ -71,20 +72,18 @@ module _ (g : Graph) (rank : ℕ → ℕ) (a : ℕ) where
 
 -- ---- one arc
 -- arc a from u to v
-module _ (edges : Edges) (rank : ℕ → ℕ) (keys : List ℕ) (u a best : ℕ) (from : u ≡ arc_tail a) where
-  pub passes_by : get_or edges.weights.now a 0 ≡ 0 → best ≡ closer (graph_of edges) rank keys u a best
-  passes_by z = next_skip (graph_of edges) rank keys u a best (λ p q r. omega arith)
+module _ (edges : Edges) (keys : List ℕ) (u a : ℕ) (from : u ≡ arc_tail a) (v : ℕ) (to : v ≡ head_of (bare edges.measures) u (arc_place a)) where
+  head_is : v ≡ head_of (bare edges.measures) (arc_tail a) (arc_place a)
+  head_is = to ∙ ap (λ (x : ℕ). head_of (bare edges.measures) x (arc_place a)) from
 
-  pub too_short : get_or keys u 0 < get_or edges.weights.now a 0 → best ≡ closer (graph_of edges) rank keys u a best
-  too_short l = next_skip (graph_of edges) rank keys u a best (λ p q r. omega arith)
+  -- a least path goes along it where the keys tell so
+  pub tight_where : (b : Bool) → 0 < get_or edges.weights.now a 0 → (b ≡ true → get_or keys u 0 ≡ get_or keys v 0 + get_or edges.weights.now a 0)
+      → (b ≡ false → get_or keys u 0 ≡ get_or keys v 0 + get_or edges.weights.now a 0 → ⊥)
+      → MatchOption (then_some b v) (Tight (graph_of edges) keys u a → ⊥) (λ x. (x ≡ (graph_of edges).head a) × Tight (graph_of edges) keys u a)
+  tight_where true pos exact other = (head_is, record { leaves = sym from; real = pos; exact = exact refl ∙ ap (λ (x : ℕ). get_or keys x 0 + get_or edges.weights.now a 0) head_is })
+  tight_where false pos exact other = λ t. other refl (t.exact ∙ sym (ap (λ (x : ℕ). get_or keys x 0 + get_or edges.weights.now a 0) head_is))
 
-  module _ (v : ℕ) (to : v ≡ head_of (bare edges.measures) u (arc_place a)) where
-    head_is : v ≡ head_of (bare edges.measures) (arc_tail a) (arc_place a)
-    head_is = to ∙ ap (λ (x : ℕ). head_of (bare edges.measures) x (arc_place a)) from
-
-    pub not_exact : (get_or keys u 0 ≡ get_or keys v 0 + get_or edges.weights.now a 0 → ⊥) → best ≡ closer (graph_of edges) rank keys u a best
-    not_exact n = next_skip (graph_of edges) rank keys u a best (λ p q r. n (omega (arith, q, ap (λ (x : ℕ). get_or keys x 0) head_is)))
-
+  module _ (rank : ℕ → ℕ) (best : ℕ) where
     pub not_better : {b : Bool} → b ≡ better (graph_of edges) rank v best → b ≡ false → best ≡ closer (graph_of edges) rank keys u a best
     not_better e f = next_skip (graph_of edges) rank keys u a best (λ p q r. false≢true (sym f ∙ e ∙ ap (λ (x : ℕ). better (graph_of edges) rank x best) head_is ∙ r))
 

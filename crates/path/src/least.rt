@@ -1,8 +1,8 @@
 // The least path, written down portal by portal: by cost, then edges, then PortalNode order.
-ghost use Rattle.std.specs.Prelude.{◌≡◌, true, ◌++◌, ℕ, ◌*◌, ◌/◌, ◌≤◌, ◌<◌, length, get_or, drop};
+ghost use Rattle.std.specs.Prelude.{◌≡◌, true, ◌++◌, ℕ, ◌*◌, ◌/◌, ◌≤◌, ◌<◌, MatchOption, length, get_or, drop};
 ghost use Rattle.std.specs.Option.{unwrap_or};
 ghost use Rattle.laws.specs.Graph.{Graph};
-ghost use Rattle.laws.specs.FirstPath.{better, closer, next};
+ghost use Rattle.laws.specs.FirstPath.{Tight, better, closer, next};
 ghost use Rattle.model.specs.Windows.{border_cell};
 ghost use Rattle.model.specs.Portals.{portal_count, arc_count, arc_tail, is_portal, portal_graph};
 ghost use Rattle.model.specs.LeastPath.{unlinked, cell_rank, node_rank, keys_to, least_path};
@@ -52,6 +52,20 @@ fn better(hall: &Opened<'_>, v: usize, best: Option<usize>) -> bool
     }
 }
 
+// The head of arc a of portal u, if a least path goes along it.
+fn along(edges: Edges, keys: &[u32], u: usize, a: usize) -> Option<usize>
+    requires { (length keys.now ≡ portal_count edges.measures) × (a < arc_count edges.measures) × (u ≡ arc_tail a) }
+    ensures { let g = graph_of edges.entry in MatchOption result (Tight g keys.now u a → ⊥) (λ v. (v ≡ g.head a) × Tight g keys.now u a) }
+{
+    let w = edges.weights[a];
+    if w == 0 {
+        return None;
+    }
+    let rest = keys[u].checked_sub(w)?;
+    let v = head_of(edges.measures, u, a % SECTOR_PORTALS);
+    (rest == keys[v]).then_some(v)
+}
+
 // The best so far, or the head of arc a of portal u where a least path goes along it and it comes before.
 fn closer(
     hall: &Opened<'_>,
@@ -65,22 +79,10 @@ fn closer(
     ensures is { let n = portal_count edges.entry.measures in unwrap_or result n ≡ closer (graph_of edges.entry) (node_rank (stored hall.now)) keys.now u a (unwrap_or best n) }
     ensures some { Best hall.now result }
 {
-    let w = edges.weights[a];
-    if w == 0 {
-        return best;
+    match along(edges, keys, u, a) {
+        Some(v) if better(hall, v, best) => Some(v),
+        _ => best,
     }
-    let key = keys[u];
-    if key < w {
-        return best;
-    }
-    let v = head_of(edges.measures, u, a % SECTOR_PORTALS);
-    if key - w != keys[v] {
-        return best;
-    }
-    if better(hall, v, best) {
-        return Some(v);
-    }
-    best
 }
 
 // The portal after u on the least path, if there is one.
