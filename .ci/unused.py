@@ -73,6 +73,7 @@ KEPT = {
     "model/specs/FileCosts.antt:names_own": UNCITED,
     "records/specs/Filling.antt:filled_length": UNCITED,
     "model/specs/Refusals.antt:earlier": STANDS,
+    "route/specs/Finding.antt:taken_few": UNCITED,
     "walks/specs/Lines.antt:reached_none": UNCITED,
     "walks/specs/Lines.antt:reached_lt": UNCITED,
     "walks/specs/Lines.antt:reached_room": UNCITED,

@@ -1,10 +1,12 @@
 -- What the walk along a least path is given, and where its arcs lead.
-use Rattle.std.specs.Prelude.{ℕ, ◌+◌, ◌-◌, ◌*◌, ◌≤◌, ◌<◌, ◌≡◌, refl, Bool, true, false, Option, None, Some, IsSome, IfSome, MatchOption, List, ◌++◌, ltb, get_or, set}
+use Rattle.std.specs.Prelude.{ℕ, ◌+◌, ◌-◌, ◌*◌, ◌≤◌, ◌<◌, ◌≡◌, refl, Bool, true, false, Option, None, Some, IsSome, IfSome, MatchOption, List, [], ◌∷◌, ◌++◌, ltb, get_or, set, take, replicate}
 use Rattle.std.specs.Bool.{then_some}
 use Rattle.std.specs.Option.{unwrap_or}
 use native.Mathlib.Omega.{arith}
 use Rattle.std.proofs.Math.Path.{sym, subst}
-use Rattle.std.proofs.Common.{ap, ◌∙◌, eq-eqb, ne_eqb}
+use Rattle.std.proofs.Common.{add-one, ap, ◌∙◌, eq-eqb, ne_eqb, length-append, take_at}
+use Rattle.std.proofs.lemmas.List.{length-replicate}
+use Rattle.std.proofs.Math.Seq.{take-suc-set}
 use Rattle.std.proofs.lemmas.Bool.{false≢true}
 use Rattle.std.proofs.Math.ListN.{length, drop}
 use Rattle.laws.specs.Graph.{Graph, Settled, turned}
@@ -115,7 +117,7 @@ pub record Walked (edges : Edges) (hall : Opened) (keys : List ℕ) (p : ℕ) (o
   pub tracing : Tracing (graph_of edges) (node_rank (stored hall)) goal p keys old new u i
 
 module _ {hall : Opened} {keys : List ℕ} {edges : Edges} (k : Linked hall edges (length keys)) where
-  pub walk_begins : (p : ℕ) (old : List ℕ) → p < portal_count edges.measures → get_or keys p 0 < unlinked → portal_count edges.measures ≤ length old → (e : ℕ) → e < portal_count edges.measures → keys ≡ keys_to (portal_graph (stored hall)) e
+  walk_begins : (p : ℕ) (old : List ℕ) → p < portal_count edges.measures → get_or keys p 0 < unlinked → portal_count edges.measures ≤ length old → (e : ℕ) → e < portal_count edges.measures → keys ≡ keys_to (portal_graph (stored hall)) e
       → Walked edges hall keys p old old p 0
   walk_begins p old l below room e le is =
       let h = stored hall in
@@ -133,24 +135,64 @@ module _ {hall : Opened} {keys : List ℕ} {edges : Edges} (k : Linked hall edge
       }
 
   module _ {p : ℕ} {old new : List ℕ} {u i : ℕ} (w : Walked edges hall keys p old new u i) where
-    pub walk_at : u < portal_count edges.measures
+    walk_at : u < portal_count edges.measures
     walk_at = tracing_node w.tracing edges.sound w.inside
 
-    pub walk_room : (i < length new) × (i < portal_count edges.measures)
+    walk_room : (i < length new) × (i < portal_count edges.measures)
     walk_room = ((tracing_room w.tracing).0, omega (arith, (tracing_room w.tracing).1, w.few))
 
-    pub walk_on : {v : ℕ} → (get_or keys u 0 ≡ 0 → ⊥) → v ≡ next (graph_of edges) (node_rank (stored hall)) keys u (arc_count edges.measures) → Walked edges hall keys p old (set new i u) v (i + 1)
+    walk_on : {v : ℕ} → (get_or keys u 0 ≡ 0 → ⊥) → v ≡ next (graph_of edges) (node_rank (stored hall)) keys u (arc_count edges.measures) → Walked edges hall keys p old (set new i u) v (i + 1)
     walk_on n e = rw e (record { goal = w.goal; inside = w.inside; start = w.start; few = w.few; tracing = tracing_more w.tracing w.start n })
 
     -- a portal follows on one that is not at the goal
-    pub walk_some : (get_or keys u 0 ≡ 0 → ⊥) → (r : Option ℕ) → unwrap_or r (portal_count edges.measures) ≡ next (graph_of edges) (node_rank (stored hall)) keys u (arc_count edges.measures) → IsSome r
+    walk_some : (get_or keys u 0 ≡ 0 → ⊥) → (r : Option ℕ) → unwrap_or r (portal_count edges.measures) ≡ next (graph_of edges) (node_rank (stored hall)) keys u (arc_count edges.measures) → IsSome r
     walk_some n None e = let on = tracing_node (tracing_more w.tracing w.start n) edges.sound w.inside in absurd (omega (arith, e, on))
     walk_some n (Some v) e = refl
 
-    pub walk_ends : get_or keys u 0 ≡ 0
+    walk_ends : get_or keys u 0 ≡ 0
         → (i + 1 ≡ length (least_path (stored hall) (portal_graph (stored hall)) keys p)) × (set new i u ≡ least_path (stored hall) (portal_graph (stored hall)) keys p ++ drop (i + 1) old)
     unfolding least_path
     walk_ends z =
         let x = tracing_over w.tracing z in
         subst (λ (g : Graph). (i + 1 ≡ length (path g (node_rank (stored hall)) keys (get_or keys p 0) p)) × (set new i u ≡ path g (node_rank (stored hall)) keys (get_or keys p 0) p ++ drop (i + 1) old))
         (graph_is k) (x.1, x.0)
+
+-- the same in a list that grows: what a walk writes into a lent list, as far as it is written
+pub record Growing (edges : Edges) (hall : Opened) (keys : List ℕ) (p : ℕ) (nodes : List ℕ) (u : ℕ) : Type 0 where
+  pub lent : List ℕ
+  pub walked : Walked edges hall keys p (replicate (portal_count edges.measures) 0) lent u (length nodes)
+  pub is : take (length nodes) lent ≡ nodes
+
+module _ {hall : Opened} {keys : List ℕ} {edges : Edges} (k : Linked hall edges (length keys)) where
+  pub path_begins : (p : ℕ) → p < portal_count edges.measures → get_or keys p 0 < unlinked → (e : ℕ) → e < portal_count edges.measures → keys ≡ keys_to (portal_graph (stored hall)) e
+      → Growing edges hall keys p [] p
+  path_begins p below linked e le is =
+      let zeros : List ℕ = replicate (portal_count edges.measures) 0 in
+      let long : length zeros ≡ portal_count edges.measures = length-replicate (portal_count edges.measures) 0 in
+      record { lent = zeros; walked = walk_begins k p zeros below linked (omega arith) e le is; is = refl }
+
+  module _ {p : ℕ} {nodes : List ℕ} {u : ℕ} (w : Growing edges hall keys p nodes u) where
+    pub path_at : u < portal_count edges.measures
+    path_at = walk_at k w.walked
+
+    pub path_room : length nodes < portal_count edges.measures
+    path_room = (walk_room k w.walked).1
+
+    longer : length (nodes ++ u ∷ []) ≡ length nodes + 1
+    longer = length-append nodes (u ∷ [])
+
+    written : take (length nodes + 1) (set w.lent (length nodes) u) ≡ nodes ++ u ∷ []
+    written = rw (add-one (length nodes)) (take-suc-set w.lent (length nodes) u (walk_room k w.walked).0 ∙ ap (λ (x : List ℕ). x ++ u ∷ []) w.is)
+
+    pub path_on : {v : ℕ} → (get_or keys u 0 ≡ 0 → ⊥) → v ≡ next (graph_of edges) (node_rank (stored hall)) keys u (arc_count edges.measures) → Growing edges hall keys p (nodes ++ u ∷ []) v
+    path_on n e = record { lent = set w.lent (length nodes) u; walked = rw longer (walk_on k w.walked n e); is = rw longer written }
+
+    pub path_some : (get_or keys u 0 ≡ 0 → ⊥) → (r : Option ℕ) → unwrap_or r (portal_count edges.measures) ≡ next (graph_of edges) (node_rank (stored hall)) keys u (arc_count edges.measures) → IsSome r
+    path_some = walk_some k w.walked
+
+    pub path_ends : get_or keys u 0 ≡ 0 → nodes ++ u ∷ [] ≡ least_path (stored hall) (portal_graph (stored hall)) keys p
+    path_ends z =
+        let both = walk_ends k w.walked z in
+        let all : List ℕ = least_path (stored hall) (portal_graph (stored hall)) keys p in
+        let zeros : List ℕ = replicate (portal_count edges.measures) 0 in
+        sym written ∙ ap (λ (x : List ℕ). take (length nodes + 1) x) both.1 ∙ take_at all (drop (length nodes + 1) zeros) (length nodes + 1) (sym both.0)

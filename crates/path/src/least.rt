@@ -1,5 +1,5 @@
 // The least path, written down portal by portal: by cost, then edges, then PortalNode order.
-ghost use Rattle.std.specs.Prelude.{◌≡◌, true, ◌++◌, ℕ, ◌*◌, ◌/◌, ◌≤◌, ◌<◌, MatchOption, length, get_or, drop};
+ghost use Rattle.std.specs.Prelude.{◌≡◌, true, ℕ, ◌*◌, ◌/◌, ◌≤◌, ◌<◌, MatchOption, length, get_or};
 ghost use Rattle.std.specs.Option.{unwrap_or};
 ghost use Rattle.laws.specs.Graph.{Graph};
 ghost use Rattle.laws.specs.FirstPath.{Tight, better, closer, next};
@@ -10,8 +10,11 @@ ghost use Rattle.store.specs.Stored.{stored};
 ghost use Rattle.graph.specs.Edges.{graph_of};
 ghost use Rattle.path.specs.Following.{Linked, Best};
 
+use arrayvec::ArrayVec;
 use fields::sectors::SECTOR_CELLS;
-use graph::portals::{SECTOR_PORTALS, head_of, portal_run, portal_sector, portal_side};
+use graph::portals::{
+    HALL_PORTALS, SECTOR_PORTALS, head_of, portal_run, portal_sector, portal_side,
+};
 use graph::table::Edges;
 use model::Side;
 use store::opened::Opened;
@@ -97,26 +100,23 @@ fn next_portal(hall: &Opened<'_>, edges: Edges, keys: &[u32], u: usize) -> Optio
     best
 }
 
-// Writes the least path from portal p to the one whose keys are given, and returns how many portals it has.
+// The least path from portal p to the one whose keys are given.
 pub fn least_path(
     hall: &Opened<'_>,
     edges: Edges,
     keys: &[u32],
     p: usize,
-    nodes: &mut [u16],
-) -> usize
-    requires linked { Linked hall.now edges (length keys.now) × (p < portal_count edges.measures) × (get_or keys.now p 0 < unlinked) × (portal_count edges.measures ≤ length nodes.old) }
+) -> ArrayVec<u16, HALL_PORTALS>
+    requires linked { Linked hall.now edges (length keys.now) × (p < portal_count edges.measures) × (get_or keys.now p 0 < unlinked) }
     requires by_index { (e : ℕ) × (e < portal_count edges.measures) × (keys.now ≡ keys_to (portal_graph (stored hall.now)) e) }
-    ensures count { result ≡ length (least_path (stored hall.now) (portal_graph (stored hall.now)) keys.now p) }
-    ensures portals { nodes.new ≡ least_path (stored hall.now) (portal_graph (stored hall.now)) keys.now p ++ drop result nodes.old }
+    ensures { result.items ≡ least_path (stored hall.now) (portal_graph (stored hall.now)) keys.now p }
 {
+    let mut nodes = ArrayVec::new();
     let mut u = p;
-    let mut i = 0;
     while keys[u] != 0 {
-        nodes[i] = u as u16;
-        i += 1;
+        nodes.push(u as u16);
         u = next_portal(hall, edges, keys, u).unwrap();
     }
-    nodes[i] = u as u16;
-    i + 1
+    nodes.push(u as u16);
+    nodes
 }

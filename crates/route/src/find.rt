@@ -56,9 +56,8 @@ fn through_pair(
     let p = source / SECTOR_CELLS * SECTOR_PORTALS + pair.start;
     let e = goal / SECTOR_CELLS * SECTOR_PORTALS + pair.end;
     keys_to(edges, e, keys);
-    let mut nodes = [0u16; HALL_PORTALS];
-    let n = least_path(hall, edges, keys, p, &mut nodes);
-    let steps = step_count(n);
+    let nodes = least_path(hall, edges, keys, p);
+    let steps = step_count(nodes.len());
     let found = Some(Route {
         steps: steps as u32,
         leg: u32::from(pair.leg),
@@ -67,7 +66,7 @@ fn through_pair(
     if list.len() / 6 < steps {
         return found;
     }
-    write_steps(hall, &nodes[..n], goal, list);
+    write_steps(hall, nodes.as_slice(), goal, list);
     found
 }
 
