@@ -54,7 +54,7 @@ module _ {g : Graph} (sound : Sound g) (back : ∥ BothWays g ∥₁) (p q : ℕ
         let j = joins (get_or keys (p + c) 0) (get_or legs c None) (Some 0) low in
         let o = nearest.over (p + c) (omega arith) j.linked in
         let run = some_run (key_for c o.0) (get_or legs c None) (get_or lasts o.0 None) j.near_start o.2 (omega (arith, o.3, j.linked)) in
-        (j.near_start, (o.0, o.1, omega (arith, run, o.2, o.3, j.linked), omega (arith, run, o.3, j.run)))
+        (j.near_start, (o.0, o.1, omega (arith, run, o.3, j.linked), omega (arith, run, o.3, j.run)))
 
     -- no start: no pair
     pub no_start : {r : ℕ} → Foremost start_cost unlinked sector_portals r → sector_portals ≤ r → Foremost runs unlinked sector_pairs sector_pairs

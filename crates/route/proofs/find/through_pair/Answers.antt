@@ -46,7 +46,7 @@ module _ (l : After-least_path-nodes) where
   nodes = l.least_path-nodes.result.items
 
   abbrev path : List ℕ
-  path = least_path (stored l.args.hall.now) (portal_graph (stored l.args.hall.now)) l.keys_to.new.keys l.args.p
+  path = least_path (stored l.args.hall.now) (portal_graph (stored l.args.hall.now)) l.keys_to.new.keys (place_portal (sector_of l.args.source) l.args.pair.start)
 
   many : length nodes ≡ length path
   many = ap (λ (x : List ℕ). length x) l.least_path-nodes.ensures
