@@ -41,7 +41,7 @@ impl Queue {
         self.end += 1;
     }
 
-    pub fn is_empty(&self) -> bool
+    fn is_empty(&self) -> bool
         ensures { IsTrue result ↔ self.now.end ≤ self.now.head }
     {
         self.end <= self.head
