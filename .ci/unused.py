@@ -64,6 +64,7 @@ KEPT = {
     "laws/specs/Region.antt:copied": UNCITED,
     "laws/specs/Table.antt:tabled_at": UNCITED,
     "laws/specs/Table.antt:tabled_fill": UNCITED,
+    "laws/specs/Table.antt:tabled_same": UNCITED,
     "laws/specs/Turns.antt:turned_none": UNCITED,
     "laws/specs/Turns.antt:lined_none": UNCITED,
     "laws/specs/Turns.antt:lined_alone": UNCITED,
