@@ -46,6 +46,7 @@ KEPT = {
     "model/specs/RouteChosen.antt:chosen_leads": "01's choice of a pair, for its reader",
     "model/specs/RouteChosen.antt:chosen_none": "01's choice of a pair, for its reader",
     "model/specs/WindowRuns.antt:in_order": "01's order of windows, for its reader",
+    "fields/specs/Bits.antt:marked_small": UNCITED,
     "fields/specs/Bits.antt:with_open": UNCITED,
     "fields/specs/Bits.antt:with_shut": UNCITED,
     "fields/specs/Bounds.antt:bytes_product": UNCITED,

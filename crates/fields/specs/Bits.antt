@@ -42,5 +42,3 @@ marked_end {test} {i} {mark} m h =
     let z : i ≡ 0 = omega arith in
     let on : (k : ℕ) → i + k ≡ k = λ k. omega arith in
     m.is ∙ (λ d. bits (λ k. test (on k d)) (10 - z d))
-
-pub ruleset marking = (marked_none, marked_turn, marked_small, marked_end)

@@ -1,12 +1,15 @@
 // Marks, bit i for place i, made from the last place down.
-ghost use Rattle.std.specs.Prelude.{◌≡◌, ◌+◌, ◌*◌, ◌≤◌};
-ghost use Rattle.laws.specs.Fold.{bit};
+ghost use Rattle.std.specs.Prelude.{◌≡◌, Bool, ℕ, ◌<◌};
+ghost use Rattle.model.specs.Windows.{bits};
 
-// A mark moved up one bit, with a place below.
-#[tactic(auto, unfolding(laws::specs::Fold::bit))]
-pub fn with_place(mark: u16, is_open: bool) -> u16
-    requires { mark ≤ 511 }
-    ensures { result ≡ bit is_open + 2 * mark }
+// The mark of ten places, by whether each is open.
+pub fn mark_of<F: Fn(usize) -> bool>(is_open: F) -> u16
+    requires { (i : ℕ) → i < 10 → F.pre is_open i }
+    ensures { (test : ℕ → Bool) → ((i : ℕ) (o : Bool) → i < 10 → F.post is_open i o → o ≡ test i) → result ≡ bits test 10 }
 {
-    2 * mark + u16::from(is_open)
+    let mut mark = 0;
+    for i in (0..10).rev() {
+        mark = 2 * mark + u16::from(is_open(i));
+    }
+    mark
 }

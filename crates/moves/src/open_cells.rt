@@ -2,7 +2,7 @@
 ghost use Rattle.std.specs.Prelude.{◌≡◌, ◌<◌};
 ghost use Rattle.moves.specs.Levels.{spot, open_row, open_word, open_words};
 
-use fields::bits::with_place;
+use fields::bits::mark_of;
 use fields::costs::open_at;
 
 // The bit of cell i in its word.
@@ -12,18 +12,12 @@ pub fn spot_of(i: usize) -> usize
     i % 50 / 10 * 11 + i % 10
 }
 
-// The open cells of row y of a sector, bit x for column x, from its last cell down. `cells_mark` of portal has this loop over another test;
-// one loop for both would take the test as a closure and say of it what it answers for each place, and that is longer than the loop.
-#[tactic(auto, using(fields::specs::Bits::marking), unfolding(crate::specs::Levels::open_row))]
+// The open cells of row y of a sector, bit x for column x.
 fn row_mark(costs: &[u8], y: usize) -> u16
     requires { y < 10 }
     ensures { result ≡ open_row costs.now y }
 {
-    let mut mark = 0;
-    for x in (0..10).rev() {
-        mark = with_place(mark, open_at(costs, y * 10 + x));
-    }
-    mark
+    mark_of(|x| open_at(costs, y * 10 + x))
 }
 
 // The open cells of half h of a sector, five rows of eleven bits.

@@ -4,7 +4,7 @@ ghost use Rattle.model.specs.Windows.{bits, mark_of};
 ghost use Rattle.portal.specs.Marks.{open_pair, open_between};
 
 use crate::border::{boundary_field_cells, cell_index};
-use fields::bits::with_place;
+use fields::bits::mark_of;
 use fields::costs::open_at;
 use fields::sectors::{SECTOR_CELLS, neighbour};
 use model::{BorderCells, FieldCell, Measures, Side};
@@ -18,17 +18,12 @@ fn open_place(costs: &[u8], s: usize, own: FieldCell, t: usize, facing: FieldCel
         && open_at(costs, t * SECTOR_CELLS + cell_index(facing))
 }
 
-// The mark of two rows of cells that face each other, from its last place down.
-#[tactic(auto, using(fields::specs::Bits::marking))]
+// The mark of two rows of cells that face each other.
 fn cells_mark(costs: &[u8], s: usize, t: usize, cells: BorderCells) -> u16
     requires { (s ≤ 20000) × (t ≤ 20000) }
     ensures { result ≡ bits (open_between costs.now s cells.own t cells.facing) 10 }
 {
-    let mut mark = 0;
-    for i in (0..10).rev() {
-        mark = with_place(mark, open_place(costs, s, cells.own[i], t, cells.facing[i]));
-    }
-    mark
+    mark_of(|i| open_place(costs, s, cells.own[i], t, cells.facing[i]))
 }
 
 // The mark of a side.

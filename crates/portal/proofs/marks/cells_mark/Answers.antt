@@ -1,7 +1,7 @@
--- `marks::cells_mark` meets its contract: the mark holds the places from i on.
-use borrow.Author.Rules.{rules}
-use Rattle.fields.specs.Bits.{marking}
+-- `cells_mark` is the mark of its ten places.
+use Rattle.std.proofs.Common.{rules}
+use Rattle.portal.specs.Marks.{open_between}
 use Rattle.portal.proofs.marks.cells_mark.Goals as goal
 
-pub loop-i-preserved : goal.loop-i-preserved
-loop-i-preserved c = search (rules, marking)
+pub returns : goal.returns
+returns c = c.mark_of.ensures (open_between c.args.costs.now c.args.s c.args.cells.own c.args.t c.args.cells.facing) (λ i o l e. search rules)
