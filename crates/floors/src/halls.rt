@@ -1,4 +1,5 @@
 // Halls: a hall file is read into base costs and built in a store, costs are changed, windows are listed, and routes are found.
+use crate::input::read_bytes;
 use crate::plans::print_measured;
 use fields::sectors::cells;
 use hall::build::build;
@@ -23,18 +24,6 @@ fn sum(bytes: &[u8]) -> u32 {
 // The end of a line: the bytes that were lent, as one number.
 fn print_lent<W: Write>(out: &mut W, bytes: &[u8]) -> io::Result<()> {
     writeln!(out, ", lent {}", sum(bytes))
-}
-
-fn read_u8<R: Read>(input: &mut R) -> io::Result<u8> {
-    let mut bytes = [0u8; 1];
-    input.read_exact(&mut bytes)?;
-    Ok(bytes[0])
-}
-
-fn read_u16<R: Read>(input: &mut R) -> io::Result<u16> {
-    let mut bytes = [0u8; 2];
-    input.read_exact(&mut bytes)?;
-    Ok(u16::from_le_bytes(bytes))
 }
 
 // How many base costs a file asks for, by its first two bytes.
@@ -74,7 +63,7 @@ pub fn replay_file<R: Read, W: Write>(
     out: &mut W,
     store: &mut [u8],
 ) -> io::Result<()> {
-    let length = usize::from(read_u16(input)?);
+    let length = usize::from(u16::from_le_bytes(read_bytes(input)?));
     let mut space = [0u8; 65535];
     let file = &mut space[..length];
     input.read_exact(file)?;
@@ -89,8 +78,8 @@ pub fn replay_change<R: Read, W: Write>(
     out: &mut W,
     store: &mut [u8],
 ) -> io::Result<()> {
-    let n = usize::from(read_u16(input)?);
-    let cost = read_u8(input)?;
+    let n = usize::from(u16::from_le_bytes(read_bytes(input)?));
+    let [cost]: [u8; 1] = read_bytes(input)?;
     let answer = change(store, n, cost);
     write!(out, "change of {n} to {cost} is {}", number_of(answer))?;
     print_lent(out, store)
@@ -102,7 +91,7 @@ pub fn replay_windows<R: Read, W: Write>(
     out: &mut W,
     store: &[u8],
 ) -> io::Result<()> {
-    let sector = read_u8(input)?;
+    let [sector]: [u8; 1] = read_bytes(input)?;
     let mut list = [7u8; 60];
     match windows(store, usize::from(sector), &mut list) {
         Ok(count) => write!(out, "windows of {sector} gives {count}")?,
@@ -113,8 +102,8 @@ pub fn replay_windows<R: Read, W: Write>(
 
 // An entry: source and goal in two bytes each. The list has room for three steps.
 pub fn replay_route<R: Read, W: Write>(input: &mut R, out: &mut W, store: &[u8]) -> io::Result<()> {
-    let source = usize::from(read_u16(input)?);
-    let goal = usize::from(read_u16(input)?);
+    let source = usize::from(u16::from_le_bytes(read_bytes(input)?));
+    let goal = usize::from(u16::from_le_bytes(read_bytes(input)?));
     let mut list = [7u8; 18];
     write!(out, "route of {source} to {goal}")?;
     match route(store, source, goal, &mut list) {

@@ -3,6 +3,7 @@
 #![tactic(auto)]
 
 mod halls;
+mod input;
 mod plans;
 
 use std::io;

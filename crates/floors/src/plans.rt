@@ -1,4 +1,5 @@
 // Plans.
+use crate::input::read_bytes;
 use hall_plan::plan;
 use model::{Dimensions, Measures, Refusal};
 use std::io::{Read, Write};
@@ -14,13 +15,9 @@ struct Quotient {
 
 impl Quotient {
     fn read<R: Read>(input: &mut R) -> io::Result<Quotient> {
-        let mut over = [0u8; 4];
-        let mut under = [0u8; 4];
-        input.read_exact(&mut over)?;
-        input.read_exact(&mut under)?;
         Ok(Quotient {
-            over: u32::from_le_bytes(over),
-            under: u32::from_le_bytes(under),
+            over: u32::from_le_bytes(read_bytes(input)?),
+            under: u32::from_le_bytes(read_bytes(input)?),
         })
     }
 
