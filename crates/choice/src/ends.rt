@@ -1,6 +1,6 @@
 // The least keys of paths to the goal over all end portals at once: the same search, begun with the moves from each end to the goal.
 ghost use Rattle.std.specs.Prelude.{◌≡◌, ℕ, ◌+◌, ◌*◌, ◌≤◌, ◌<◌, length};
-ghost use Rattle.laws.specs.Graph.{Graph, Sound};
+ghost use Rattle.laws.specs.Graph.{Graph, Sound, BothWays};
 ghost use Rattle.laws.specs.Starts.{Tried};
 ghost use Rattle.model.specs.Portals.{sector_portals, portal_count};
 ghost use Rattle.graph.specs.Edges.{graph_of};
@@ -41,7 +41,8 @@ fn offer_ends(q: usize, lasts: &[Option<u8>; SECTOR_PORTALS], keys: &mut [u32], 
 
 // The least key from each portal to the goal over one of the ends, whose numbers begin at q: 4,096 for each move from the end to the goal and 4,096 more are counted in. u32::MAX where there is none.
 pub fn keys_to_goal(edges: Edges, q: usize, lasts: &[Option<u8>; SECTOR_PORTALS], keys: &mut [u32])
-    requires { (length keys.old ≡ portal_count edges.measures) × (q + sector_portals ≤ portal_count edges.measures) }
+    requires lists { (length keys.old ≡ portal_count edges.measures) × (q + sector_portals ≤ portal_count edges.measures) }
+    requires both_ways { ∥ BothWays (graph_of edges) ∥₁ }
     ensures { Nearest (graph_of edges.entry) q lasts.now keys.new }
 {
     let mut room = [false; HALL_PORTALS];

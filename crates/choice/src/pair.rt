@@ -2,6 +2,7 @@
 // In a list of keys u32::MAX stands for no path, since the laws of the search have it as a number there.
 ghost use Rattle.std.specs.Prelude.{◌≡◌, Option, Some, None, ℕ, ◌+◌, ◌*◌, ◌≤◌, ◌<◌, IfSome, MatchOption, length, get_or};
 ghost use Rattle.std.specs.Option.{unwrap_or};
+ghost use Rattle.laws.specs.Graph.{BothWays};
 ghost use Rattle.laws.specs.FirstLeast.{Foremost};
 ghost use Rattle.model.specs.Portals.{sector_portals, hall_portals, portal_count};
 ghost use Rattle.model.specs.LeastPath.{unlinked};
@@ -58,6 +59,7 @@ pub fn choose_pair(
 ) -> Option<Pair>
     requires lists { length keys.old ≡ portal_count edges.measures }
     requires inside { (p + sector_portals ≤ portal_count edges.measures) × (q + sector_portals ≤ portal_count edges.measures) }
+    requires both_ways { ∥ BothWays (graph_of edges) ∥₁ }
     ensures pair { let first = Foremost (pair_run (graph_of edges.entry) legs.now lasts.now p q) unlinked sector_pairs in MatchOption result (first sector_pairs) (λ pair. first (pair.start * sector_portals + pair.end)) }
     ensures moves { IfSome result (λ pair. (get_or legs.now pair.start None ≡ Some pair.leg) × (get_or lasts.now pair.end None ≡ Some pair.last)) }
 {

@@ -10,7 +10,7 @@ use crate::edges::fill_edges;
 use model::Measures;
 use store::opened::Opened;
 
-// The weights of the edges of a hall of these measures by arc number, 0 where there is no edge: edges join numbers of the hall, weigh no more than 256 moves, and lead both ways.
+// The weights of the edges of a hall of these measures by arc number, 0 where there is no edge: edges join numbers of the hall and weigh no more than 256 moves.
 #[derive(Clone, Copy)]
 pub struct Edges<'a> {
     pub measures: Measures,
@@ -20,15 +20,15 @@ pub struct Edges<'a> {
     ghost long: { length weights.now ≡ arc_count measures },
     ghost sound: { Sound (table_graph measures weights.now) },
     ghost light: { (e : ℕ) → e < arc_count measures → get_or weights.now e 0 ≤ 1048576 },
-    ghost both_ways: { ∥ BothWays (table_graph measures weights.now) ∥₁ },
 }
 
 impl<'a> Edges<'a> {
-    // The edges of the portal graph of a store, in a lent list.
+    // The edges of the portal graph of a store, in a lent list: they lead both ways.
     pub fn of_store(hall: &Opened<'_>, table: &'a mut [u32]) -> Edges<'a>
         requires { length table.old ≡ arc_count hall.now.store.measures }
         ensures measures { result.measures ≡ hall.now.store.measures }
         ensures weights { result.weights.now ≡ edge_table (stored hall.now) }
+        ensures both_ways { ∥ BothWays (table_graph result.measures result.weights.now) ∥₁ }
     {
         fill_edges(hall, table);
         Edges {

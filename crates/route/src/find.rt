@@ -1,10 +1,12 @@
 // The search for a route: document 01, "A route". It answers what was found, and writes the steps where the list has room for all of them; the call refuses where it has not.
 ghost use Rattle.std.specs.Prelude.{◌≡◌, ◌*◌, ◌/◌, ◌≤◌, ◌<◌, length};
+ghost use Rattle.laws.specs.Graph.{BothWays};
 ghost use Rattle.model.specs.Sectors.{sectors, cells, sector_of};
 ghost use Rattle.model.specs.Portals.{sector_portals, place_portal, portal_count, arc_count, portal_graph};
 ghost use Rattle.model.specs.Route.{through_portals, route_of};
 ghost use Rattle.model.specs.Calls.{outcome};
 ghost use Rattle.store.specs.Stored.{stored};
+ghost use Rattle.graph.specs.Edges.{graph_of};
 ghost use Rattle.path.specs.Following.{Linked};
 ghost use Rattle.route.specs.Finding.{found_into, last_route, Paired, pair_route};
 
@@ -49,7 +51,8 @@ fn through_pair(
     keys: &mut [u32],
     list: &mut [u8],
 ) -> Option<Route>
-    requires { Linked hall.now edges (length keys.old) × Paired (stored hall.now) (place_portal (sector_of source) pair.start) (place_portal (sector_of goal) pair.end) }
+    requires linked { Linked hall.now edges (length keys.old) × Paired (stored hall.now) (place_portal (sector_of source) pair.start) (place_portal (sector_of goal) pair.end) }
+    requires both_ways { ∥ BothWays (graph_of edges) ∥₁ }
     ensures answer { result ≡ outcome (pair_route (stored hall.now) goal (place_portal (sector_of source) pair.start) (place_portal (sector_of goal) pair.end) pair.leg pair.last) }
     ensures steps { list.new ≡ found_into (pair_route (stored hall.now) goal (place_portal (sector_of source) pair.start) (place_portal (sector_of goal) pair.end) pair.leg pair.last) list.old }
 {

@@ -1,6 +1,7 @@
 // The least keys of paths to one portal: a search that serves waiting portals in the order in which they came to wait.
 // Keys, waits and queue stay three parameters: as fields of one struct each method would have to say that the two lent lists stay the same.
 ghost use Rattle.std.specs.Prelude.{◌≡◌, ◌↔◌, false, IsTrue, ℕ, ◌+◌, ◌*◌, ◌/◌, ◌≤◌, ◌<◌, length, get_or};
+ghost use Rattle.laws.specs.Graph.{BothWays};
 ghost use Rattle.laws.specs.Relaxing.{relaxed};
 ghost use Rattle.laws.specs.Waiting.{awaited, work};
 ghost use Rattle.laws.specs.Extending.{Keeps};
@@ -131,7 +132,8 @@ pub fn settle(edges: Edges, keys: &mut [u32], wait: &mut [bool])
 
 // The least key of a path to portal e from each portal, and u32::MAX where there is none.
 pub fn keys_to(edges: Edges, e: usize, keys: &mut [u32])
-    requires { (length keys.old ≡ portal_count edges.measures) × (e < portal_count edges.measures) }
+    requires lists { (length keys.old ≡ portal_count edges.measures) × (e < portal_count edges.measures) }
+    requires both_ways { ∥ BothWays (graph_of edges) ∥₁ }
     ensures { keys.new ≡ keys_to (graph_of edges.entry) e }
 {
     let mut wait = [false; HALL_PORTALS];

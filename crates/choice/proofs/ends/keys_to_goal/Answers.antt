@@ -19,12 +19,12 @@ returns c =
     let g = graph_of edges in
     let to = end_at c.args.q in
     let cost = end_cost c.args.lasts.now in
-    let numbers : length c.offer_ends.new.keys ≡ portal_count edges.measures = c.offer_ends.auto.keys ∙ c.fill.ensures.len ∙ c.requires.0 in
+    let numbers : length c.offer_ends.new.keys ≡ portal_count edges.measures = c.offer_ends.auto.keys ∙ c.fill.ensures.len ∙ c.requires.lists.0 in
     let zeros = take-replicate {X = Bool} (length c.args.keys.now) hall_portals false (omega (arith, edges.few)) in
-    let waits : length c.offer_ends.new.wait ≡ portal_count edges.measures = c.offer_ends.auto.wait ∙ ap length zeros ∙ length-replicate {A = Bool} (length c.args.keys.now) false ∙ c.requires.0 in
-    let begun = starts_none g sector_portals to cost sound (λ j l. omega arith) unlinked (omega arith) c.requires.0 c.requires.0 (c.fill.ensures.after (λ y e. e)) zeros in
-    let waiting = starts_all g sector_portals to cost sound (λ j l. omega arith) c.offer_ends.new.keys c.offer_ends.new.wait (c.offer_ends.ensures.begun g sound (c.fill.ensures.len ∙ c.requires.0) begun) in
+    let waits : length c.offer_ends.new.wait ≡ portal_count edges.measures = c.offer_ends.auto.wait ∙ ap length zeros ∙ length-replicate {A = Bool} (length c.args.keys.now) false ∙ c.requires.lists.0 in
+    let begun = starts_none g sector_portals to cost sound (λ j l. omega arith) unlinked (omega arith) c.requires.lists.0 c.requires.lists.0 (c.fill.ensures.after (λ y e. e)) zeros in
+    let waiting = starts_all g sector_portals to cost sound (λ j l. omega arith) c.offer_ends.new.keys c.offer_ends.new.wait (c.offer_ends.ensures.begun g sound (c.fill.ensures.len ∙ c.requires.lists.0) begun) in
     let kept = c.settle.ensures.kept (ends_graph g c.args.q c.args.lasts.now) (0 ∷ []) (false ∷ []) (starts_extends g sector_portals to cost sound (λ j l. omega arith)) g.nodes unlinked waiting in
     let settled =
     starts_over g sector_portals to cost sound (λ j l. omega arith) c.settle.new.keys c.settle.new.wait (c.settle.auto.wait ∙ waits) kept (λ v l. c.settle.ensures.over v (omega (arith, numbers))) in
-    ends_nearest c.args.q c.args.lasts.now c.settle.new.keys c.offer_ends.ensures.light sound edges.both_ways (omega (arith, edges.few)) edges.light c.requires.1 (c.settle.auto.keys ∙ numbers) settled
+    ends_nearest c.args.q c.args.lasts.now c.settle.new.keys c.offer_ends.ensures.light sound c.requires.both_ways (omega (arith, edges.few)) edges.light c.requires.lists.1 (c.settle.auto.keys ∙ numbers) settled

@@ -12,7 +12,7 @@ returns-in_err-start c =
     let edges = c.args.edges in
     let first = c.in_err-start.ensures.first (start_run c.keys_to_goal.new.keys c.args.p c.args.legs.now) (λ k r l h. search rules) in
     rw c.from_residual.ensures (record {
-      pair = no_start edges.sound edges.both_ways c.args.p c.args.q c.requires.inside.0 c.requires.inside.1 c.args.legs.now c.args.lasts.now c.keys_to_goal.new.keys c.keys_to_goal.ensures first (omega arith);
+      pair = no_start edges.sound c.requires.both_ways c.args.p c.args.q c.requires.inside.0 c.requires.inside.1 c.args.legs.now c.args.lasts.now c.keys_to_goal.new.keys c.keys_to_goal.ensures first (omega arith);
       moves = tt;
     })
 
@@ -21,7 +21,7 @@ returns-in_err-end c =
     let edges = c.args.edges in
     let start = c.in_ok-start.ensures.first (start_run c.keys_to_goal.new.keys c.args.p c.args.legs.now) (λ k r l h. search rules) in
     let end = c.in_err-end.ensures.first (end_run c.keys_to.new.keys c.args.q c.args.lasts.now) (λ k r l h. search rules) in
-    let low : sector_portals < sector_portals = some_end edges.sound edges.both_ways c.args.p c.args.q c.requires.inside.0 c.requires.inside.1 c.args.legs.now c.args.lasts.now
+    let low : sector_portals < sector_portals = some_end edges.sound c.requires.both_ways c.args.p c.args.q c.requires.inside.0 c.requires.inside.1 c.args.legs.now c.args.lasts.now
     c.keys_to_goal.new.keys c.keys_to_goal.ensures start c.in_ok-start.ensures.low c.keys_to.new.keys c.keys_to.ensures end in
     absurd (omega arith)
 
@@ -31,7 +31,7 @@ returns c =
     let start = c.in_ok-start.ensures.first (start_run c.keys_to_goal.new.keys c.args.p c.args.legs.now) (λ k r l h. search rules) in
     let end = c.in_ok-end.ensures.first (end_run c.keys_to.new.keys c.args.q c.args.lasts.now) (λ k r l h. search rules) in
     record {
-      pair = first_pair edges.sound edges.both_ways c.args.p c.args.q c.requires.inside.0 c.requires.inside.1 c.args.legs.now c.args.lasts.now
+      pair = first_pair edges.sound c.requires.both_ways c.args.p c.args.q c.requires.inside.0 c.requires.inside.1 c.args.legs.now c.args.lasts.now
           c.keys_to_goal.new.keys c.keys_to_goal.ensures start c.in_ok-start.ensures.low c.keys_to.new.keys c.keys_to.ensures end;
       moves = (c.in_ok-legs.was, c.in_ok-lasts.was);
     }
@@ -40,7 +40,7 @@ pub returns-in_err-legs : goal.returns-in_err-legs
 returns-in_err-legs c =
     let edges = c.args.edges in
     let start = c.in_ok-start.ensures.first (start_run c.keys_to_goal.new.keys c.args.p c.args.legs.now) (λ k r l h. search rules) in
-    let some = start_leg edges.sound edges.both_ways c.args.p c.args.q c.requires.inside.0 c.requires.inside.1 c.args.legs.now c.args.lasts.now
+    let some = start_leg edges.sound c.requires.both_ways c.args.p c.args.q c.requires.inside.0 c.requires.inside.1 c.args.legs.now c.args.lasts.now
     c.keys_to_goal.new.keys c.keys_to_goal.ensures start c.in_ok-start.ensures.low c.keys_to.new.keys c.keys_to.ensures in
     absurd (never_none _ some c.in_err-legs.was)
 
@@ -49,6 +49,6 @@ returns-in_err-lasts c =
     let edges = c.args.edges in
     let start = c.in_ok-start.ensures.first (start_run c.keys_to_goal.new.keys c.args.p c.args.legs.now) (λ k r l h. search rules) in
     let end = c.in_ok-end.ensures.first (end_run c.keys_to.new.keys c.args.q c.args.lasts.now) (λ k r l h. search rules) in
-    let some = end_last edges.sound edges.both_ways c.args.p c.args.q c.requires.inside.0 c.requires.inside.1 c.args.legs.now c.args.lasts.now
+    let some = end_last edges.sound c.requires.both_ways c.args.p c.args.q c.requires.inside.0 c.requires.inside.1 c.args.legs.now c.args.lasts.now
     c.keys_to_goal.new.keys c.keys_to_goal.ensures start c.in_ok-start.ensures.low c.keys_to.new.keys c.keys_to.ensures end in
     absurd (never_none _ some c.in_err-lasts.was)

@@ -69,7 +69,7 @@ module _ (c : After-of_store-edges) where
 pub choose_pair-requires : goal.choose_pair-requires
 choose_pair-requires c =
     let same = counted (goal.at.choose_pair-requires c).After-of_store-edges in
-    record { lists = c.requires.3 ∙ sym same; inside = (omega (arith, same, c.requires.0), omega (arith, same, c.requires.1)) }
+    record { lists = c.requires.3 ∙ sym same; inside = (omega (arith, same, c.requires.0), omega (arith, same, c.requires.1)); both_ways = c.of_store-edges.ensures.both_ways }
 
 pub returns-in_err-pair : goal.returns-in_err-pair
 returns-in_err-pair c =
@@ -81,7 +81,10 @@ returns-in_err-pair c =
 pub through_pair-requires : goal.through_pair-requires
 through_pair-requires c =
     let link = linked (goal.at.through_pair-requires c).After-of_store-edges c.choose_pair.auto.keys in
-    (link, paired link c.args.source c.args.goal c.portal_moves-legs.ensures c.portal_moves-lasts.ensures c.in_ok-pair.pair c.in_ok-pair.ensures.pair c.in_ok-pair.ensures.moves.0 c.in_ok-pair.ensures.moves.1 (omega (arith, c.requires.1)))
+    record {
+      linked = (link, paired link c.args.source c.args.goal c.portal_moves-legs.ensures c.portal_moves-lasts.ensures c.in_ok-pair.pair c.in_ok-pair.ensures.pair c.in_ok-pair.ensures.moves.0 c.in_ok-pair.ensures.moves.1 (omega (arith, c.requires.1)));
+      both_ways = c.of_store-edges.ensures.both_ways;
+    }
 
 pub returns : goal.returns
 returns c =

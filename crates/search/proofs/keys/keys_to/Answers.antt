@@ -17,12 +17,12 @@ room : (c : Start) → portal_count c.args.edges.measures ≤ hall_portals
 room c = omega (arith, c.args.edges.few)
 
 pub settle-requires : goal.settle-requires
-settle-requires c = rw (length-set, length-set, c.fill.ensures.len) (record { numbers = c.requires.0; room = room (goal.at.settle-requires c).Start })
+settle-requires c = rw (length-set, length-set, c.fill.ensures.len) (record { numbers = c.requires.lists.0; room = room (goal.at.settle-requires c).Start })
 
 pub returns : goal.returns
 returns c =
     let sound = c.args.edges.sound in
     let costs = ap (λ (k : List ℕ). set k c.args.e 0) (c.fill.ensures.after (λ y e. e)) in
-    let began = begins (searchable_of {edges = c.args.edges} (record { numbers = c.requires.0; room = room (goal.at.returns c).Start })) c.requires.1 (omega arith) costs refl in
+    let began = begins (searchable_of {edges = c.args.edges} (record { numbers = c.requires.lists.0; room = room (goal.at.returns c).Start })) c.requires.lists.1 (omega arith) costs refl in
     let kept = keeps_itself _ _ c.settle.new.keys c.settle.new.wait sound c.settle.ensures.kept _ _ began in
-    keys_found sound c.args.edges.both_ways c.requires.1 (waiting_over sound kept (λ v l. c.settle.ensures.over v (rw (length-set, c.fill.ensures.len) (omega arith))))
+    keys_found sound c.requires.both_ways c.requires.lists.1 (waiting_over sound kept (λ v l. c.settle.ensures.over v (rw (length-set, c.fill.ensures.len) (omega arith))))

@@ -14,5 +14,7 @@ invariant_of-result c =
       long = filled_long passed filled;
       sound = filled_sound passed filled;
       light = filled_light passed filled;
-      both_ways = ∣ filled_both_ways passed filled ∣₁;
     }
+
+pub returns-clause-both_ways : goal.returns-clause-both_ways
+returns-clause-both_ways c = ∣ filled_both_ways c.args.hall.now.opened c.fill_edges.ensures ∣₁
