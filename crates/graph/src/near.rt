@@ -23,7 +23,7 @@ fn mid_of(hall: &Opened<'_>, p: usize) -> u8
     ensures { result ≡ mid_of (stored hall.now) p }
 {
     if is_portal(hall, p) {
-        midpoint(hall, p) as u8
+        midpoint(hall, p)
     } else {
         NO_CROSSING
     }

@@ -80,12 +80,12 @@ pub fn window_of_portal(hall: &Opened<'_>, p: usize) -> PortalWindow
 }
 
 // The crossing of a portal: the index of its midpoint.
-pub fn midpoint(hall: &Opened<'_>, p: usize) -> usize
+pub fn midpoint(hall: &Opened<'_>, p: usize) -> u8
     requires { is_portal (stored hall.now) p ≡ true }
     ensures { (result ≡ midpoint (stored hall.now) p) × (result < sector_cells) }
 {
     let run = portal_run(hall, p);
-    usize::from(border_index(portal_side(p), (run.first + run.last) / 2))
+    border_index(portal_side(p), (run.first + run.last) / 2)
 }
 
 // The portal of the same number on the facing side, which is in sector t.

@@ -43,7 +43,7 @@ fn step_at(hall: &Opened<'_>, p: usize) -> RouteStep
     RouteStep {
         column: sector.column,
         row: sector.row,
-        goal: goal as u8,
+        goal,
         side: w.side,
         first: w.first,
         last: w.last,

@@ -18,6 +18,6 @@ pub returns : goal.returns
 unfolding midpoint crossing
 returns c =
     let h = stored c.args.hall.now in
-    let is = c.from.ensures ∙ c.border_index.ensures
+    let is = c.border_index.ensures
     ∙ same (portal_mark h c.args.p) (portal_window c.args.p) c.portal_side.ensures c.portal_run-run.ensures.begins c.portal_run-run.ensures.ends in
     (is, omega (arith, is, mid_low h (fits_of c.args.hall.now.opened) c.args.p c.requires))
