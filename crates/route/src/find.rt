@@ -73,29 +73,7 @@ fn through_pair(
     found
 }
 
-// The route over portals, in a lent table of weights and a lent list of keys.
-fn through_lists(
-    hall: &Opened<'_>,
-    source: usize,
-    goal: usize,
-    table: &mut [u32],
-    keys: &mut [u32],
-    list: &mut [u8],
-) -> Option<Route>
-    requires { (source < cells hall.now.store.measures) × (goal < cells hall.now.store.measures) × (length table.old ≡ arc_count hall.now.store.measures) × (length keys.old ≡ portal_count hall.now.store.measures) }
-    ensures answer { result ≡ outcome (through_portals (stored hall.now) (portal_graph (stored hall.now)) source goal) }
-    ensures steps { list.new ≡ found_into (through_portals (stored hall.now) (portal_graph (stored hall.now)) source goal) list.old }
-{
-    let legs = portal_moves(hall, source);
-    let lasts = portal_moves(hall, goal);
-    let edges = Edges::of_store(hall, table);
-    let p = source / SECTOR_CELLS * SECTOR_PORTALS;
-    let q = goal / SECTOR_CELLS * SECTOR_PORTALS;
-    let pair = choose_pair(edges, p, q, &legs, &lasts, keys)?;
-    through_pair(hall, edges, source, goal, pair, keys, list)
-}
-
-// The same in lists of its own.
+// The route over portals.
 fn through_portals(hall: &Opened<'_>, source: usize, goal: usize, list: &mut [u8]) -> Option<Route>
     requires { (source < cells hall.now.store.measures) × (goal < cells hall.now.store.measures) }
     ensures answer { result ≡ outcome (through_portals (stored hall.now) (portal_graph (stored hall.now)) source goal) }
@@ -103,16 +81,15 @@ fn through_portals(hall: &Opened<'_>, source: usize, goal: usize, list: &mut [u8
 {
     let mut table = [0u32; HALL_ARCS];
     let mut keys = [0u32; HALL_PORTALS];
-    let arcs = sectors(hall.store.measures) * SECTOR_ARCS;
-    let numbers = sectors(hall.store.measures) * SECTOR_PORTALS;
-    through_lists(
-        hall,
-        source,
-        goal,
-        &mut table[..arcs],
-        &mut keys[..numbers],
-        list,
-    )
+    let table = &mut table[..sectors(hall.store.measures) * SECTOR_ARCS];
+    let keys = &mut keys[..sectors(hall.store.measures) * SECTOR_PORTALS];
+    let legs = portal_moves(hall, source);
+    let lasts = portal_moves(hall, goal);
+    let edges = Edges::of_store(hall, table);
+    let p = source / SECTOR_CELLS * SECTOR_PORTALS;
+    let q = goal / SECTOR_CELLS * SECTOR_PORTALS;
+    let pair = choose_pair(edges, p, q, &legs, &lasts, keys)?;
+    through_pair(hall, edges, source, goal, pair, keys, list)
 }
 
 // The route from one cell to another, its steps at the front of a list.

@@ -1,20 +1,22 @@
--- `through_lists` chooses a pair and takes the route over it.
+-- `through_portals` chooses a pair and takes the route over it.
 use native.Mathlib.Omega.{arith}
-use Prim.Native.Nat.{ℕ, ◌+◌, ◌*◌, ◌/◌, ◌%◌, ◌<◌}
+use Prim.Native.Nat.{ℕ, ◌+◌, ◌*◌, ◌/◌, ◌%◌, ◌≤◌, ◌<◌}
 use mathlib.Core.Path.{◌≡◌, sym, ap, ◌∙◌, refl}
 use mathlib.Core.List.{List}
-use lib.ListN.{length, get_or}
+use lib.ListN.{length, get_or, take}
+use Rattle.std.specs.Prelude.{replicate}
+use Rattle.std.proofs.lemmas.List.{take-replicate, length-replicate}
 use Rattle.std.specs.Prelude.{Option, Some, None}
 use Rattle.laws.specs.FirstLeast.{Foremost}
 use Rattle.model.specs.declared.Measures.{Measures}
 use Rattle.model.specs.Sectors.{sectors, sector_of}
-use Rattle.model.specs.Portals.{sector_portals, place_portal, portal_count, portal_graph}
+use Rattle.model.specs.Portals.{sector_portals, hall_portals, place_portal, portal_count, portal_graph}
 use Rattle.model.specs.LeastPath.{unlinked}
 use Rattle.model.specs.Calls.{outcome}
 use Rattle.model.specs.Route.{Found, through_portals}
 use Rattle.store.specs.declared.opened.Opened.{Opened}
 use Rattle.store.specs.Stored.{stored}
-use Rattle.graph.specs.Reading.{fits_of, measures_are}
+use Rattle.graph.specs.Reading.{accepted_of, fits_of, measures_are}
 use Rattle.graph.specs.Edges.{graph_of}
 use Rattle.graph.specs.declared.table.Edges.{Edges}
 use Rattle.graph.specs.Near.{portal_moves}
@@ -22,8 +24,8 @@ use Rattle.choice.specs.Choosing.{sector_pairs, pair_run, run_at, Chosen, chosen
 use Rattle.choice.specs.declared.places.Pair.{Pair}
 use Rattle.path.specs.Following.{Linked, graph_is}
 use Rattle.route.specs.Finding.{Paired, found_into, pair_found, pair_paired, pair_route, none_found}
-use Rattle.route.proofs.find.through_lists.Goals as goal
-use Rattle.route.proofs.find.through_lists.Goals.{After-of_store-edges}
+use Rattle.route.proofs.find.through_portals.Goals as goal
+use Rattle.route.proofs.find.through_portals.Goals.{After-of_store-edges}
 
 -- ---- what the choice by the table and the near portals as they were read is in the hall
 module _ {hall : Opened} {edges : Edges} {keys : ℕ} (k : Linked hall edges keys) (source goal : ℕ) {legs lasts : List (Option ℕ)}
@@ -59,17 +61,26 @@ module _ (c : After-of_store-edges) where
   counted : portal_count c.of_store-edges.result.measures ≡ portal_count c.args.hall.now.store.measures
   counted = ap (λ (m : Measures). portal_count m) c.of_store-edges.ensures.measures
 
-  linked : {keys : ℕ} → keys ≡ length c.args.keys.now → Linked c.args.hall.now c.of_store-edges.result keys
+  -- the numbers' part of the keys
+  abbrev own : List ℕ
+  own = take (c.sectors-2.result * sector_portals) (replicate hall_portals 0)
+
+  own_long : length own ≡ portal_count c.of_store-edges.result.measures
+  own_long =
+      let few : c.sectors-2.result * sector_portals ≤ hall_portals = omega (arith, c.sectors-2.ensures, (accepted_of c.args.hall.now.opened).few_sectors) in
+      ap length (take-replicate {X = ℕ} (c.sectors-2.result * sector_portals) hall_portals 0 few) ∙ length-replicate {A = ℕ} (c.sectors-2.result * sector_portals) 0 ∙ omega (arith, c.sectors-2.ensures, counted)
+
+  linked : {keys : ℕ} → keys ≡ length own → Linked c.args.hall.now c.of_store-edges.result keys
   linked same = record {
     measured = c.of_store-edges.ensures.measures;
     filled = c.of_store-edges.ensures.weights;
-    numbers = same ∙ c.requires.3 ∙ sym counted;
+    numbers = same ∙ own_long;
   }
 
 pub choose_pair-requires : goal.choose_pair-requires
 choose_pair-requires c =
     let same = counted (goal.at.choose_pair-requires c).After-of_store-edges in
-    record { lists = c.requires.3 ∙ sym same; inside = (omega (arith, same, c.requires.0), omega (arith, same, c.requires.1)); both_ways = c.of_store-edges.ensures.both_ways }
+    record { lists = own_long (goal.at.choose_pair-requires c).After-of_store-edges; inside = (omega (arith, same, c.requires.0), omega (arith, same, c.requires.1)); both_ways = c.of_store-edges.ensures.both_ways }
 
 pub returns-in_err-pair : goal.returns-in_err-pair
 returns-in_err-pair c =
