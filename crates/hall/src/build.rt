@@ -5,18 +5,13 @@ ghost use Rattle.model.specs.Calls.{measures_of, build_number, build_into};
 
 use builder::build::build_hall;
 use model::{Measures, Refusal};
-use store::check::{bad_scale, bad_sectors, too_short, wrong_size};
+use store::check::{check_measures, too_short, wrong_size};
 
 // The refusals of measures, base costs and a store.
 fn check_build(m: Measures, base: &[u8], st: &[u8]) -> Result<(), Refusal>
     ensures { number_of result ≡ build_number m base.now st.now }
 {
-    if bad_sectors(m) {
-        return Err(Refusal::Sectors);
-    }
-    if bad_scale(m) {
-        return Err(Refusal::Scale);
-    }
+    check_measures(m)?;
     if wrong_size(m, base.len()) {
         return Err(Refusal::BaseLength);
     }

@@ -4,7 +4,7 @@ ghost use Rattle.model.specs.Numbers.{number_of};
 ghost use Rattle.model.specs.Calls.{check_number};
 
 use model::Refusal;
-use store::check::{any_bad_mark, bad_scale, bad_sectors, too_short};
+use store::check::{any_bad_mark, check_measures, too_short};
 use store::layout::{Store, fourth_byte};
 use store::opened::Opened;
 use store::reading::measures_at;
@@ -18,12 +18,7 @@ pub fn check_store(st: &[u8]) -> Result<Opened<'_>, Refusal>
         return Err(Refusal::StoreLength);
     }
     let measures = measures_at(st);
-    if bad_sectors(measures) {
-        return Err(Refusal::Sectors);
-    }
-    if bad_scale(measures) {
-        return Err(Refusal::Scale);
-    }
+    check_measures(measures)?;
     if 0 < fourth_byte(st) {
         return Err(Refusal::FourthByte);
     }

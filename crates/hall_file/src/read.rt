@@ -6,7 +6,7 @@ ghost use Rattle.model.specs.Answers.{ReadAnswers};
 
 use file::entries::{any_again, any_off, fill_from, too_many, wrong_length};
 use model::{Measures, Refusal};
-use store::check::{bad_scale, bad_sectors, wrong_size};
+use store::check::{check_measures, wrong_size};
 use store::reading::measures_at;
 
 // Refusals 10 to 14, which look at the file's form.
@@ -17,12 +17,7 @@ fn check_form(file: &[u8]) -> Result<(), Refusal>
         return Err(Refusal::FileUnderFive);
     }
     let m = measures_at(file);
-    if bad_sectors(m) {
-        return Err(Refusal::Sectors);
-    }
-    if bad_scale(m) {
-        return Err(Refusal::Scale);
-    }
+    check_measures(m)?;
     if too_many(file) {
         return Err(Refusal::EntryCount);
     }

@@ -4,14 +4,16 @@ ghost use Rattle.laws.specs.Search.{any};
 ghost use Rattle.model.specs.Sectors.{sectors, cells};
 ghost use Rattle.model.specs.Store.{size_of};
 ghost use Rattle.model.specs.Accepted.{outside, bad_sectors, bad_scale, Accepted};
+ghost use Rattle.model.specs.Numbers.{number_of};
 ghost use Rattle.model.specs.Calls.{bad_mark};
+ghost use Rattle.store.specs.Checks.{measures_number};
 ghost use Rattle.store.specs.Ends.{is_above, end_line, line_mark, Within, side_ends};
 ghost use Rattle.store.specs.Stored.{held};
 
 use crate::layout::{Store, size_of};
 use fields::sectors::{cells, sectors};
 use fields::sides::SIDES;
-use model::{Measures, Side};
+use model::{Measures, Refusal, Side};
 
 #[tactic(auto, using(crate::proofs::Ranges::outside_is))]
 fn is_outside(low: u8, high: u8, n: u8) -> bool
@@ -22,7 +24,7 @@ fn is_outside(low: u8, high: u8, n: u8) -> bool
 
 // Whether columns or rows are outside 1 to 10.
 #[tactic(auto, unfolding(model::specs::Accepted::bad_sectors))]
-pub fn bad_sectors(m: Measures) -> bool
+fn bad_sectors(m: Measures) -> bool
     ensures { result ≡ bad_sectors m }
 {
     is_outside(1, 10, m.columns) || is_outside(1, 10, m.rows)
@@ -30,10 +32,24 @@ pub fn bad_sectors(m: Measures) -> bool
 
 // Whether the scale is outside 1 to 9.
 #[tactic(auto, unfolding(model::specs::Accepted::bad_scale))]
-pub fn bad_scale(m: Measures) -> bool
+fn bad_scale(m: Measures) -> bool
     ensures { result ≡ bad_scale m }
 {
     is_outside(1, 9, m.scale)
+}
+
+// The refusals of measures.
+#[tactic(auto, using(laws::specs::Ladder::ladder), unfolding(crate::specs::Checks::measures_number))]
+pub fn check_measures(m: Measures) -> Result<(), Refusal>
+    ensures { number_of result ≡ measures_number m }
+{
+    if bad_sectors(m) {
+        return Err(Refusal::Sectors);
+    }
+    if bad_scale(m) {
+        return Err(Refusal::Scale);
+    }
+    Ok(())
 }
 
 // Whether a list of costs is not as long as the hall has cells.
