@@ -1,5 +1,5 @@
 // The fewest moves inside a sector, by words of bits: level d has the cells that at most d moves reach.
-ghost use Rattle.std.specs.Prelude.{◌≡◌, ℕ, ◌+◌, ◌≤◌, ◌<◌, List, length, get_or};
+ghost use Rattle.std.specs.Prelude.{◌≡◌, ℕ, ◌+◌, ◌≤◌, ◌<◌, List, length, get_or, replicate};
 ghost use Rattle.model.specs.Moves.{moves};
 ghost use Rattle.moves.specs.Levels.{open_words, first_word, first_level, grown_word, grown, missing, moves_in, moves_or_none};
 
@@ -79,8 +79,11 @@ impl Model for Spread {
 }
 
 impl Spread {
-    // A spread from no cell.
-    pub fn new() -> Spread {
+    // A spread from no cell, which leads to none.
+    #[tactic(auto, unfolding(crate::specs::Levels::moves_in, crate::specs::Levels::moves_by, crate::specs::Levels::missing, laws::specs::Table::tabulate))]
+    pub fn new() -> Spread
+        ensures { result ≡ replicate 100 255 }
+    {
         Spread {
             levels: [[0; 2]; 101],
             count: 0,
