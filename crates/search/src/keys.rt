@@ -16,7 +16,14 @@ use crate::queue::Queue;
 use graph::portals::{HALL_PORTALS, SECTOR_PORTALS, head_of};
 use graph::table::Edges;
 
-// Arc a of portal u: its head takes the offer, if that is less, and then waits.
+// Whether an edge of weight w from a portal of this key offers less than the old key.
+fn gains(key: u32, w: u32, old: u32) -> bool
+    ensures { IsTrue result ↔ (0 < w) × (key + w < old) }
+{
+    w != 0 && u64::from(key) + u64::from(w) < u64::from(old)
+}
+
+// Arc a of portal u: its head takes the offer, if that is less, and then waits. Where there is no edge the head may be no number of the hall.
 fn offer(edges: Edges, u: usize, a: usize, keys: &mut [u32], wait: &mut [bool], queue: &mut Queue)
     requires { Searched edges (length keys.old) (length wait.old) × (a < arc_count edges.measures) × (u ≡ arc_tail a) }
     ensures taken { (keys.new ≡ relaxed (graph_of edges.entry) keys.old a) × (wait.new ≡ awaited (graph_of edges.entry) keys.old wait.old a) }
@@ -27,27 +34,15 @@ fn offer(edges: Edges, u: usize, a: usize, keys: &mut [u32], wait: &mut [bool], 
         return;
     }
     let v = head_of(edges.measures, u, a % SECTOR_PORTALS);
-    let old = keys[v];
-    if old <= w {
-        return;
-    }
-    let key = keys[u];
-    if old - w <= key {
+    if !gains(keys[u], w, keys[v]) {
         return;
     }
     let waited = wait[v];
-    keys[v] = key + w;
+    keys[v] = keys[u] + w;
     wait[v] = true;
     if !waited {
         queue.push(v);
     }
-}
-
-// Whether an edge of weight w from a portal of this key offers less than the old key.
-fn gains(key: u32, w: u32, old: u32) -> bool
-    ensures { IsTrue result ↔ (0 < w) × (key + w < old) }
-{
-    w != 0 && u64::from(key) + u64::from(w) < u64::from(old)
 }
 
 // Whether an edge of portal u within its sector offers less than the portal there has.
