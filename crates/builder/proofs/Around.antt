@@ -1,25 +1,21 @@
 -- Facts for the proofs that go over the sectors around a changed one: their sides marked one after the other are the table of marks afresh, and a side that exceeds is one of theirs.
 use mathlib.Core.Path.{◌≡◌, refl, sym, ap, ◌∙◌}
 use mathlib.Core.Logic.{◌⊎◌, inl, inr}
-use mathlib.Core.Bool.{Bool, true, false, ◌&&◌, ◌||◌, false≢true}
+use mathlib.Core.Bool.{Bool, true, false, ◌&&◌, false≢true}
 use mathlib.Core.List.{List}
 use Prim.Native.Nat.{ℕ, zero, suc, ◌+◌, ◌*◌, ◌/◌, ◌%◌, ◌<◌}
 use native.Mathlib.Nat.{not-suc-le-zero}
 use native.Mathlib.Decide.{ℕ_discrete}
 use native.Mathlib.Omega.{arith}
-use lib.Dec.{eqb, ltb}
+use lib.Dec.{eqb}
 use lib.ListN.{length, get_or, length-set}
 use lib.Seq.{get_or-set_same, get_or-set_other, ext_get_or}
 use borrow.Author.Tests.{eqb-true, eqb-false, eq-eqb, ne_eqb}
 use Rattle.laws.specs.Fold.{pick, pick_keeps, run, run_length}
-use Rattle.std.specs.List.{list_any}
-use Rattle.fields.specs.declared.sides.TheConstants.{SIDES}
-use Rattle.laws.specs.Search.{first, any, any_no, any_has, both}
+use Rattle.laws.specs.Search.{any, any_no, any_has, both}
 use Rattle.laws.specs.Table.{tabulate, length_tabulate, tabulate_at}
 use Rattle.laws.specs.Each.{each}
 use Rattle.model.specs.declared.Measures.{Measures}
-use Rattle.model.specs.declared.Side.{Side}
-use Rattle.model.specs.declared.Side.TheVariants.{North, East, South, West}
 use Rattle.model.specs.Cells.{side_at}
 use Rattle.model.specs.Sectors.{sectors, has_beyond}
 use Rattle.model.specs.Halls.{Hall}
@@ -123,18 +119,6 @@ module _ (m : Measures) (costs : List ℕ) where
       long = run_length step (long_place t 0) 9 marks
 
 -- ---- sides that exceed
--- what `any` over the sides answers
-pub any_side : (p : Side → Bool) {r : Bool} → r ≡ list_any p SIDES → r ≡ any (λ k. p (side_at k)) 4
-unfolding any first
-any_side p e = e ∙ go (p North) (p East) (p South) (p West)
-  where
-    go : (a b c d : Bool) → a || (b || (c || (d || false))) ≡ ltb (pick a 0 (suc (pick b 0 (suc (pick c 0 (suc (pick d 0 (suc 0)))))))) 4
-    go true b c d = refl
-    go false true c d = refl
-    go false false true d = refl
-    go false false false true = refl
-    go false false false false = refl
-
 pub place_near : (m : Measures) (t k : ℕ) → k < 9 → is_there m t k ≡ true → is_nearby m t (nearby m t k) ≡ true
 unfolding is_nearby
 place_near m t k l e = any_has (λ j. is_there m t j && eqb (nearby m t j) (nearby m t k)) 9 k l (rw e (eq-eqb (nearby m t k) (nearby m t k) refl))

@@ -1,6 +1,7 @@
 // The tests of the store check, and those that build and read file share with it.
 ghost use Rattle.std.specs.Prelude.{◌≡◌, not, ◌+◌, ◌*◌, ◌<◌, ltb, eqb, length};
 ghost use Rattle.laws.specs.Search.{any};
+ghost use Rattle.model.specs.Cells.{side_number};
 ghost use Rattle.model.specs.Sectors.{sectors, cells};
 ghost use Rattle.model.specs.Store.{size_of};
 ghost use Rattle.model.specs.Accepted.{outside, bad_sectors, bad_scale, Accepted};
@@ -125,28 +126,27 @@ fn end_line(m: Measures, side: Side) -> EndLine
     }
 }
 
-// Whether a mark on side n is not 0 in a line of sectors.
-fn any_in(store: &Store<'_>, line: EndLine, n: usize) -> bool
-    requires { Within store.now.measures line × (n < 4) }
-    ensures { result ≡ any (line_mark (held store.now).marks line n) line.count }
+// Whether a mark on a side is not 0 in a line of sectors.
+fn any_in(store: &Store<'_>, line: EndLine, side: Side) -> bool
+    requires { Within store.now.measures line }
+    ensures { result ≡ any (line_mark (held store.now).marks line (side_number side)) line.count }
 {
-    (0..line.count).any(|i| is_above(store, 0, (line.from + i * line.step) * 4 + n))
+    (0..line.count).any(|i| is_above(store, 0, (line.from + i * line.step) * 4 + side as usize))
 }
 
-// Whether one is in the line of sectors at the end of side n.
-#[tactic(auto, using(crate::specs::Ends::end_within, crate::specs::Ends::side_found, fields::specs::Sides::sides_at))]
-fn any_at_end(store: &Store<'_>, n: usize) -> bool
-    requires { n < 4 }
-    ensures { result ≡ side_ends store.now.measures (held store.now).marks n }
+// Whether one is in the line of sectors at the side's end of the floor.
+#[tactic(auto, using(crate::specs::Ends::end_within, crate::specs::Ends::side_found, model::specs::Sides::side_number_lem))]
+fn any_at_end(store: &Store<'_>, side: Side) -> bool
+    ensures { result ≡ side_ends store.now.measures (held store.now).marks (side_number side) }
 {
-    any_in(store, end_line(store.measures, SIDES[n]), n)
+    any_in(store, end_line(store.measures, side), side)
 }
 
 // Whether one is at the end of any side.
 fn any_end(store: &Store<'_>) -> bool
     ensures { result ≡ any (side_ends store.now.measures (held store.now).marks) 4 }
 {
-    (0..4).any(|n| any_at_end(store, n))
+    SIDES.iter().any(|side| any_at_end(store, *side))
 }
 
 // Whether any mark of a store is above 1,023, or not 0 on a side without neighbour, which is at the side's end of the floor.

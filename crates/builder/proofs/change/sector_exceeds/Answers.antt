@@ -4,10 +4,10 @@ use Rattle.std.proofs.Common.{rules, tests}
 use Rattle.std.proofs.lemmas.Iterator.{YieldsList-from_slice}
 use Rattle.std.proofs.lemmas.Iterator.Search.{any_from_yields_List}
 use Rattle.fields.specs.declared.sides.TheConstants.{SIDES}
+use Rattle.fields.specs.Sides.{any_side}
 use Rattle.model.specs.Change.{exceeds_at}
 use Rattle.store.specs.Layout.{hall_of}
 use Rattle.builder.specs.Around.{sector_exceeds}
-use Rattle.builder.proofs.Around.{any_side}
 use Rattle.builder.proofs.change.sector_exceeds.Goals as goal
 
 pub returns : goal.returns
