@@ -128,13 +128,13 @@ fewer marks k h = go (4 - k) k (omega arith)
     go zero k e = rw (← e, add-zero) (omega arith)
     go (suc d) k e = omega (arith, length_by marks k, go d (suc k) (omega arith))
 
+pub sector_start : {marks : List ℕ} {count k : ℕ} {xs t : List ℕ} → SectorFilled marks count k xs t → 3 * length (windows_by marks 4) ≤ length xs → 3 * count ≤ length t
+sector_start {marks} {count} {k} r room = omega (arith, r.counted, r.filled.same, fewer marks k r.filled.within)
+
 module _ {marks : List ℕ} {count k : ℕ} {xs t : List ℕ} (r : SectorFilled marks count k xs t) (l : k < 4) (room : 3 * length (windows_by marks 4) ≤ length xs) where
   -- with the windows of the next side there is room too
   next_fits : 3 * (count + window_count (get_or marks k 0)) ≤ length t
   next_fits = omega (arith, r.counted, r.filled.same, length_by marks k, fewer marks (suc k) (omega arith))
-
-  pub sector_start : 3 * count ≤ length t
-  sector_start = omega (arith, next_fits)
 
   pub sector_room : 3 * window_count (get_or marks k 0) ≤ length (take (length t - 3 * count) (drop (3 * count) t))
   sector_room = simp (length-take, length-drop) (omega (arith, next_fits))

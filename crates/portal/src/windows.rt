@@ -59,8 +59,8 @@ pub fn sector_windows(list: &mut [u8], marks: [u16; 4]) -> usize
     ensures { (result ≡ length (windows_by marks 4)) × (list.new ≡ over (windows_by marks 4) list.old) }
 {
     let mut count = 0;
-    for (k, side) in SIDES.iter().enumerate() {
-        count += side_windows(&mut list[3 * count..], *side, marks[k]);
+    for (side, mark) in SIDES.iter().zip(&marks) {
+        count += side_windows(&mut list[3 * count..], *side, *mark);
     }
     count
 }
