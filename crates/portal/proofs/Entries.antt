@@ -14,7 +14,6 @@ use Rattle.std.specs.List.{sum_by}
 use Rattle.laws.specs.Table.{tabulate, length_tabulate, tabulate_more}
 use Rattle.model.specs.declared.PortalWindow.{PortalWindow}
 use Rattle.model.specs.declared.Side.{Side}
-use Rattle.fields.specs.Sides.{sides_at}
 use Rattle.model.specs.Cells.{side_number, side_at}
 use Rattle.model.specs.Windows.{border, window_count, window_at, side_windows}
 use Rattle.model.specs.WindowRuns.{window_run}
@@ -168,7 +167,7 @@ sum_fits {marks} {count} {k} r f l e = omega (arith, r.counted, few_by f (suc k)
 pub triple_fits : {marks : List ℕ} {count k : ℕ} {xs t : List ℕ} → SectorFilled marks count k xs t → FourMarks marks → Fits w64 (3 * count)
 triple_fits {marks} {count} {k} r f = omega (arith, r.counted, r.filled.within, few_by f k r.filled.within)
 
-pub ruleset filling = (sides_at, sector_none, sector_start, sector_room, sector_turn, sector_end, sector_count, four_small, sum_fits, triple_fits)
+pub ruleset filling = (sector_none, sector_room, sector_end, sector_count, four_small, sum_fits)
 
 -- ---- how many windows a sector has
 -- four marks, summed
