@@ -68,7 +68,7 @@ fn exceeds_at(m: Measures, marks: &[u16], t: usize, s: usize, side: Side) -> boo
     })
 }
 
-// Whether it has on any of its sides.
+// Whether any side of sector s does.
 fn sector_exceeds(m: Measures, marks: &[u16], t: usize, s: usize) -> bool
     requires { Accepted m × Small marks.now × (t < sectors m) × (s < sectors m) × (is_nearby m t s ≡ true) }
     ensures { result ≡ sector_exceeds (hall_of m [] [] marks.now) t s }
@@ -76,7 +76,7 @@ fn sector_exceeds(m: Measures, marks: &[u16], t: usize, s: usize) -> bool
     SIDES.iter().any(|side| exceeds_at(m, marks, t, s, *side))
 }
 
-// Whether the sector at place k around t has, if there is one.
+// Whether any side of the sector at place k around t does, if there is one.
 #[tactic(auto, using(model::specs::Nearby::nearby_lt, crate::proofs::Around::place_near))]
 fn place_exceeds(m: Measures, marks: &[u16], t: usize, k: usize) -> bool
     requires { Accepted m × Small marks.now × (t < sectors m) × (k < 9) }
@@ -85,7 +85,7 @@ fn place_exceeds(m: Measures, marks: &[u16], t: usize, k: usize) -> bool
     nearby(m, t, k).is_some_and(|s| sector_exceeds(m, marks, t, s))
 }
 
-// Whether any side has. Only sides of the sectors around t can.
+// Whether any side of the hall does. Only sides of the sectors around t can.
 fn any_exceeds(m: Measures, marks: &[u16], t: usize) -> bool
     requires { Accepted m × Small marks.now × (t < sectors m) }
     ensures { result ≡ exceeds (hall_of m [] [] marks.now) t }

@@ -43,7 +43,7 @@ fn edge_at(spread: &Spread, mid: u8, outer: u32, own: usize, c: usize) -> u32
     if c == own {
         return outer;
     }
-    // By map_or a route over combs takes 6,329,601 instructions, and so 6,223,265.
+    // By map_or a route over combs takes 1.7 % more instructions.
     match near_by(spread, mid) {
         Some(moves) => KEY_STEP * u32::from(moves) + 1,
         None => 0,

@@ -14,7 +14,7 @@ use moves::spread::Spread;
 use store::opened::Opened;
 
 // Stands for the crossing of a number that is no portal's: no cell of a sector.
-// A number and no Option: one test then finds it and bounds the cell. With Option a route over combs takes 6,350,432 instructions, and so 6,223,265.
+// A number and no Option: one test then finds it and bounds the cell. With Option a route over combs takes 2 % more instructions.
 pub const NO_CROSSING: u8 = 100;
 
 // The index of a portal's midpoint, or NO_CROSSING where the number is no portal's.

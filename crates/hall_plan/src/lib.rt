@@ -1,4 +1,4 @@
-// The plan call, for every input: document 01, "Calls and their numbers, in order". Tests are joined by & and |, which look at both sides, so that each refusal is one test as in 01.
+// The plan call, for every input: document 01, "Calls and their numbers, in order". Tests are joined by |, which looks at both sides, so that each refusal is one test as in 01.
 #![tactic(auto)]
 
 ghost use Rattle.std.specs.Prelude.{◌≡◌};

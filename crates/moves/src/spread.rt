@@ -47,7 +47,7 @@ fn grown(words: [u64; 2], level: [u64; 2]) -> [u64; 2]
     ]
 }
 
-// How many of n levels have cell i. A loop: by `filter` and `count` a route over combs takes 7,577,279 instructions, and so 6,120,673.
+// How many of n levels have cell i. A loop: by `filter` and `count` a route over combs takes 24 % more instructions.
 #[tactic(auto, unfolding(crate::specs::Levels::missing))]
 fn having(levels: &[[u64; 2]; 101], n: usize, i: usize) -> usize
     requires { (n ≤ 101) × (i < 100) }

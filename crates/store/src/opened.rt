@@ -3,7 +3,7 @@ ghost use Rattle.store.specs.Passed.{Passed};
 
 use crate::layout::Store;
 
-// What each call reads once the check has answered 0.
+// What each call reads once the check has refused nothing.
 #[derive(Clone, Copy)]
 pub struct Opened<'a> {
     pub store: Store<'a>,

@@ -42,7 +42,7 @@ fn walk_line(board: &[u8], a: usize, step: usize, n: usize) -> Option<usize>
     }
 }
 
-// The place on a circle of ten that a step leads to; e is what the step does, plus one. By a remainder a build at scale 9 takes 689,555 instructions, and so 565,133.
+// The place on a circle of ten that a step leads to; e is what the step does, plus one. By a remainder a build at scale 9 takes 22 % more instructions.
 fn turned(c: usize, e: usize) -> usize
     requires { (c ≤ 9) × (e ≤ 2) }
     ensures { (result ≡ (c + 9 + e) % 10) × (result ≤ 9) }
