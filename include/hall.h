@@ -65,7 +65,7 @@ extern "C" {
 /* The version of this header: one more whenever a call, an answer, a number, or a form of lent bytes
  * changes, so that a caller has something to do; docs/CHANGES.md says what. hall_version answers that
  * of the library: where the two differ, header and library do not belong together. */
-#define HALL_VERSION 2u
+#define HALL_VERSION 3u
 uint32_t hall_version(void);
 
 /* Sizes in bytes, from a hall's columns and rows: a list of base costs (one byte each, by floor

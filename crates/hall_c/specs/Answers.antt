@@ -14,7 +14,7 @@ use Rattle.hall_c.specs.declared.FileAnswer.{FileAnswer}
 
 -- HALL_VERSION of include/hall.h
 abbrev pub version : ℕ
-version = 2
+version = 3
 
 abbrev pub dimensions : Float → Float → Float → Float → Dimensions
 dimensions x y unit radius = record { size_x = x; size_y = y; unit = unit; radius = radius }

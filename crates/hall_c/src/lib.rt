@@ -134,7 +134,7 @@ impl From<Result<u32, Refusal>> for FileAnswer {
 pub extern "C" fn hall_version() -> u32
     ensures { result ≡ version }
 {
-    2
+    3
 }
 
 // A hall's columns, rows and scale from its sizes, unit and radius.

@@ -20,7 +20,7 @@ pub use entries::{NO_WINDOW, Step, Window};
 pub use store::Store;
 
 /// The version of include/hall.h that this package declares; [`version`] is that of the library.
-pub const VERSION: u32 = 2;
+pub const VERSION: u32 = 3;
 /// No route has more steps: a list with this room is never refused.
 pub const MOST_STEPS: usize = 1_001;
 /// No sector has more windows.
