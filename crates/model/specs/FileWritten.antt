@@ -1,5 +1,5 @@
 -- 02, request 2: what write file gives. The file has an entry for each cell that does not cost 1. Reading it gives sizes, scale and base costs back, so that two stores have the same file if and only if these are equal.
-use Prim.Native.Nat.{ℕ, suc, ◌+◌, ◌*◌, ◌/◌, ◌%◌, ◌≤◌, ◌<◌}
+use Prim.Native.Nat.{ℕ, zero, suc, ◌+◌, ◌*◌, ◌/◌, ◌%◌, ◌≤◌, ◌<◌}
 use Rattle.std.proofs.Math.Nat.{add-zero, zero-add}
 use native.Mathlib.Omega.{arith}
 use Rattle.std.specs.Prelude.{◌≡◌, ◌≢◌, Bool, true, false, List, [], ◌∷◌, ◌++◌, map, Ok, ltb, eqb, length, get_or, take, drop}
@@ -10,7 +10,7 @@ use Rattle.std.proofs.lemmas.List.{length-map}
 use Rattle.std.proofs.Math.ListN.{get_or-map}
 use Rattle.std.proofs.Math.Seq.{take-append_seam}
 use borrow.Author.Tests.{eq-eqb, eqb-true, eqb-false, ltb-true, ltb-false, le-ltb, lt-leb}
-use Rattle.laws.specs.Search.{any, any_no, count, count_le, count_up, count_above, passing, passing_is, passing_count, passing_place, passing_at}
+use Rattle.laws.specs.Search.{any, any_no, count, count_up, count_above, passing, passing_is, passing_count, passing_place, passing_at}
 use Rattle.laws.specs.Members.{at_in}
 use Rattle.laws.specs.Ladder.{refuse, not_different}
 use Rattle.laws.specs.Table.{get_or_default}
@@ -114,7 +114,6 @@ module _ (m : Measures) (base : List ℕ) where
 pub record FileFor (m : Measures) (base file : List ℕ) : Type 0 where
   pub measures : measures_at file ≡ m
   pub whole : length file ≡ 5 + 3 * entry_count file
-  pub few : entry_count file ≤ length base
   pub ascending : (j k : ℕ) → j < k → k < entry_count file → entry_number file j < entry_number file k
   pub on : (k : ℕ) → k < entry_count file → entry_number file k < length base
   pub cost : (k : ℕ) → k < entry_count file → entry_cost file k ≡ get_or base (entry_number file k) 0
@@ -139,7 +138,6 @@ module _ (m : Measures) (base : List ℕ) where
   file_for = record {
     measures = measures_kept;
     whole = rw (file_count m base) (length_file m base);
-    few = rw (file_count m base, named_count base) (count_le (is_named base) (length base));
     ascending = λ j k h l. rw (entry_number_lem m base j (omega (arith, in_list k l)), entry_number_lem m base k (in_list k l)) (named_ascend base j k h (in_list k l));
     on = λ k l. rw (entry_number_lem m base k (in_list k l)) (named_is base k (in_list k l)).0;
     cost = own_cost;
@@ -153,6 +151,19 @@ module _ (m : Measures) (base : List ℕ) where
           let low : k < length (named_cells base) = rw (named_count base) (count_above (is_named base) v (length base) l e) in
           (k, rw (file_count m base) low, entry_number_lem m base k low ∙ named_at base v k l e refl)
       found v l other false e = absurd (other (cost_one base v e))
+
+-- no more entries than cells, as their numbers ascend
+module _ {m : Measures} {base file : List ℕ} (f : FileFor m base file) where
+  place_low : (k : ℕ) → k < entry_count file → k ≤ entry_number file k
+  place_low zero l = omega arith
+  place_low (suc k) l = omega (arith, place_low k (omega arith), f.ascending k (suc k) (omega arith) l)
+
+  few_entries : entry_count file ≤ length base
+  few_entries = go (entry_count file) refl
+    where
+      go : (n : ℕ) → entry_count file ≡ n → n ≤ length base
+      go zero e = omega arith
+      go (suc n) e = omega (arith, place_low n (omega arith), f.on n (omega arith))
 
 -- ---- read again
 -- such a file is accepted with a list as long as the costs that it was made from, and fills it with these
@@ -193,7 +204,7 @@ module _ {m : Measures} {base file : List ℕ} (f : FileFor m base file) (a : Ac
       one v l none false e = let k = f.every v l (eqb-false (get_or base v 0) 1 e) in absurd (none k.0 k.1 k.2)
 
   file_number_lem : (size : ℕ) → read_number file size ≡ refuse (not (eqb size (cells m))) 16 0
-  file_number_lem size = read_room file size file_formed (omega (arith, f.few, a.few_sectors)) off_none again_none ∙ ap (λ (n : Measures). refuse (not (eqb size (cells n))) 16 0) f.measures
+  file_number_lem size = read_room file size file_formed (omega (arith, few_entries f, a.few_sectors)) off_none again_none ∙ ap (λ (n : Measures). refuse (not (eqb size (cells n))) 16 0) f.measures
 
   file_gives : base_in file (length base) ≡ base
   file_gives = filled_only file (length base) (base_filled file (length base) file_readable) file_fills
@@ -222,7 +233,7 @@ module _ (st : List ℕ) (e : check_number st ≡ 0) where
 
   -- the longest: one entry for each of 10,000 cells
   pub file_most : length (file_in st) ≤ 30005
-  file_most = omega (arith, stored_file.whole, stored_file.few, long_base, (checked st e).measures.few_sectors)
+  file_most = omega (arith, stored_file.whole, few_entries stored_file, long_base, (checked st e).measures.few_sectors)
 
   -- so that with this room 29 cannot occur
   pub room_enough : (room : ℕ) → 30005 ≤ room → write_number st room ≡ 0
