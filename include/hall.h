@@ -224,12 +224,12 @@ hall_windows_answer hall_windows(const uint8_t *store, size_t store_length, size
  * equal; scaled costs and marks have no part in it. A hall that was changed at a scale above 1 may
  * differ from one built from its file, as hall_change says.
  *
- * The file is written to the front of the lent bytes, at most 5 + 3 x HALL_CELLS(columns, rows) of
- * them; what is behind it stays as it is.
+ * The file is written to the front of the lent output, at most 5 + 3 x HALL_CELLS(columns, rows)
+ * bytes of it; what is behind it stays as it is.
  *
  * Refusals: those of the store check, 29. */
 hall_file_answer hall_write_file(const uint8_t *store, size_t store_length,
-                                 uint8_t *file, size_t file_length);
+                                 uint8_t *output, size_t output_length);
 
 /* What a number means, in the words of documents 01 and 02; before the colon the call that refuses,
  * where it is one alone. */

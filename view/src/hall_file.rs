@@ -37,7 +37,7 @@ pub struct HallFile {
     pub spare: usize,
 }
 
-/// Reads a hall file and the pairs behind it, or gives the number of 01's refusal.
+/// Reads a hall file and the pairs behind it, or gives the refusal's number.
 pub fn read(bytes: &[u8]) -> Result<HallFile, u8> {
     let (file, pairs) = bytes.split_at(file_length(bytes));
     // The proved call fills a list that fits the first two bytes, if they are a floor's.
@@ -76,7 +76,7 @@ fn u16_at(bytes: &[u8], at: usize) -> usize {
     u16::from_le_bytes([bytes[at], bytes[at + 1]]).into()
 }
 
-/// What 01's refusals of a hall file mean.
+/// What 01's refusals of a hall file mean; what 28 is about, `repeats` tells.
 pub fn meaning(number: u8) -> &'static str {
     match number {
         10 => "it has under 5 bytes",

@@ -62,7 +62,7 @@ impl<'a> Entries<'a> {
     }
 }
 
-// Whether the floor number of any entry is too large. A loop: by `any`, reading a file of no entries takes 20,133 instructions, and so 10,105.
+// Whether the floor number of any entry is too large. A loop: by `any`, reading a file of no entries takes some 20,100 instructions, and so 10,100.
 pub fn any_off(file: &[u8]) -> bool
     requires { 5 + 3 * entry_count file.now ≤ length file.now }
     ensures { result ≡ any (entry_off file.now) (entry_count file.now) }

@@ -8,7 +8,7 @@ use fields::copies::put_front;
 use model::Measures;
 use store::reading::put_u16;
 
-// How many cells have an entry, as they do not cost 1. A loop: by `filter` and `count`, writing a file of no entries takes 117,338 instructions, and so 96,436.
+// How many cells have an entry, as they do not cost 1. A loop: by `filter` and `count`, writing a file of no entries takes some 117,300 instructions, and so 96,400.
 pub fn named_count(base: &[u8]) -> usize
     ensures { (result ≡ length (named_cells base.now)) × (result ≤ length base.now) }
 {

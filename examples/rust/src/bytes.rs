@@ -49,9 +49,9 @@ pub fn windows(store: &[u8], sector: usize, list: &mut [u8]) -> WindowsAnswer {
     unsafe { declared::hall_windows(store.as_ptr(), store.len(), sector, lent, room) }
 }
 
-/// The hall file of the store's floor, written to the front of the lent bytes.
-pub fn write_file(store: &[u8], file: &mut [u8]) -> FileAnswer {
-    let (lent, room) = (file.as_mut_ptr(), file.len());
+/// The hall file of the store's floor, written to the front of the lent output.
+pub fn write_file(store: &[u8], output: &mut [u8]) -> FileAnswer {
+    let (lent, room) = (output.as_mut_ptr(), output.len());
     // SAFETY: both are slices, lent with their lengths.
     unsafe { declared::hall_write_file(store.as_ptr(), store.len(), lent, room) }
 }

@@ -94,7 +94,7 @@ unsafe extern "C" {
     pub fn hall_write_file(
         store: *const u8,
         store_length: usize,
-        file: *mut u8,
-        file_length: usize,
+        output: *mut u8,
+        output_length: usize,
     ) -> FileAnswer;
 }
