@@ -87,6 +87,17 @@ def apply(pairs, folder):
     return None
 
 
+def check(crate):
+    """A check of a crate, and the first error in a file. One that fails without such an error met something else than the
+    edit, and is made once more."""
+    for _ in range(2):
+        run = subprocess.run(["rt", "check"], cwd=crate, capture_output=True, text=True)
+        error = ERROR.search(run.stdout + run.stderr)
+        if not run.returncode or error:
+            break
+    return run, error
+
+
 def try_edit(path):
     """What is wrong with the verdict on an edit; None if it is refused as it must be."""
     pairs, refuser = read_edit(path)
@@ -99,10 +110,9 @@ def try_edit(path):
         for name in CRATES:
             if name == "laws" and not any(file.startswith("laws/") for file, _, _ in pairs):
                 continue
-            run = subprocess.run(["rt", "check"], cwd=folder / "crates" / name, capture_output=True, text=True)
+            run, error = check(folder / "crates" / name)
             if run.returncode:
-                error = ERROR.search(run.stdout + run.stderr)
-                found = f"{name}/{error.group(1)}" if error else None
+                found = f"{name}/{error.group(1)}" if error else f"no file: {(run.stdout + run.stderr)[-500:]}"
                 return None if found == refuser else f"refused by {found}, not by {refuser}"
     return "not refused"
 
