@@ -16,12 +16,12 @@ use Rattle.audit.specs.Reached.{Reached, reached_hall, reached_passes}
 
 -- ---- what build leaves passes the check, and its file is that of the costs it was built from
 module _ (m : Measures) (base lent : List ℕ) (a : Accepts m base lent) where
-  pub build_passes : build_number m base lent ≡ 0
+  pub build_accepted : build_number m base lent ≡ 0
   unfolding build_number refuse
-  build_passes = rw (good_sectors a.measures, good_scale a.measures, eq-eqb (length base) (cells m) a.long, le-ltb (length lent) (size_of m) a.room)
+  build_accepted = rw (good_sectors a.measures, good_scale a.measures, eq-eqb (length base) (cells m) a.long, le-ltb (length lent) (size_of m) a.room)
 
   reached : Reached (record { measures = m; base = base }) lent (build_into m base lent)
-  reached = record { accepted = build_passes; is_built = refl }
+  reached = record { accepted = build_accepted; is_built = refl }
 
   pub built_passes : check_number (build_into m base lent) ≡ 0
   built_passes = reached_passes reached
@@ -45,7 +45,7 @@ pub record SameAgain (st list lent : List ℕ) : Type 0 where
 -- for every store that passes the check, a list of the right length and a store with room
 pub built_again : (st list lent : List ℕ) → check_number st ≡ 0 → length list ≡ cells (measures_at st) → size_of (measures_at st) ≤ length lent → SameAgain st list lent
 unfolding decode
-built_again st list lent e right room = record { accepted = rw (m_is, base_is) (build_passes m base lent ok); passes = rw (m_is, base_is) (built_passes m base lent ok); same = rw (m_is, base_is) (built_file m base lent ok) }
+built_again st list lent e right room = record { accepted = rw (m_is, base_is) (build_accepted m base lent ok); passes = rw (m_is, base_is) (built_passes m base lent ok); same = rw (m_is, base_is) (built_file m base lent ok) }
   where
     m : Measures
     m = measures_at st

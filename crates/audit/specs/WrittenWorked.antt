@@ -33,17 +33,17 @@ lent_again = built_again lent (replicate 100 9) (replicate 212 9) refl refl (ome
 abbrev all_blocked : List ℕ
 all_blocked = replicate 10000 255
 
-counted_all : (p : ℕ → Bool) (n : ℕ) → ((v : ℕ) → v < n → p v ≡ true) → count p n ≡ n
+every_counted : (p : ℕ → Bool) (n : ℕ) → ((v : ℕ) → v < n → p v ≡ true) → count p n ≡ n
 unfolding count bit
-counted_all p zero each = refl
-counted_all p (suc n) each = rw (each n (omega arith), counted_all p n (λ v l. each v (omega arith))) (omega arith)
+every_counted p zero each = refl
+every_counted p (suc n) each = rw (each n (omega arith), every_counted p n (λ v l. each v (omega arith))) (omega arith)
 
 each_named : (v : ℕ) → v < 10000 → is_named all_blocked v ≡ true
 unfolding is_named
 each_named v l = rw (get_or-replicate {A = ℕ} 10000 v 255 0 l)
 
 all_named : length (named_cells all_blocked) ≡ 10000
-all_named = named_count all_blocked ∙ rw (length-replicate {A = ℕ} 10000 255) (counted_all (is_named all_blocked) 10000 each_named)
+all_named = named_count all_blocked ∙ rw (length-replicate {A = ℕ} 10000 255) (every_counted (is_named all_blocked) 10000 each_named)
 
 module _ (lent : List ℕ) (room : size_of (hall 10 10 1) ≤ length lent) where
   ok : Accepts (hall 10 10 1) all_blocked lent
