@@ -26,10 +26,10 @@ fn replay<R: Read, W: Write>(input: &mut R, out: &mut W, store: &mut [u8]) -> io
     Ok(true)
 }
 
-// A proved loop has to end, so its turns are counted, up to a number that no input reaches.
+// A proved loop has to end, so its turns are counted, up to a number that no list uses up.
 fn replay_all<R: Read, W: Write>(input: &mut R, out: &mut W) -> io::Result<()> {
     let mut store = [0u8; 20804];
-    for _ in 0..u64::MAX {
+    for _ in 0..1000000 {
         if !replay(input, out, &mut store)? {
             break;
         }
@@ -37,7 +37,7 @@ fn replay_all<R: Read, W: Write>(input: &mut R, out: &mut W) -> io::Result<()> {
     Ok(())
 }
 
-// A list that breaks off, or an output that is closed, ends the replay: what was printed is compared with what the oracle wrote.
+// A list that breaks off ends the replay, and a line that cannot be written is passed over: what was printed is compared with what the oracle wrote.
 fn main(rt: HostRuntime) {
     let mut input = rt.stdin();
     let mut out = io::writer(&rt);

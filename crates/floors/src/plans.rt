@@ -33,11 +33,11 @@ impl fmt::Display for Quotient {
 }
 
 // Columns, rows and scale, or the number of a refusal.
-pub fn print_measured<W: Write>(out: &mut W, answer: Result<Measures, Refusal>) -> io::Result<()> {
-    match answer {
+pub fn print_measured<W: Write>(out: &mut W, answer: Result<Measures, Refusal>) {
+    let _ = match answer {
         Ok(m) => write!(out, " gives {} {} {}", m.columns, m.rows, m.scale),
         Err(refusal) => write!(out, " is {}", refusal.number()),
-    }
+    };
 }
 
 pub fn replay<R: Read, W: Write>(input: &mut R, out: &mut W) -> io::Result<()> {
@@ -45,13 +45,14 @@ pub fn replay<R: Read, W: Write>(input: &mut R, out: &mut W) -> io::Result<()> {
     let size_y = Quotient::read(input)?;
     let unit = Quotient::read(input)?;
     let radius = Quotient::read(input)?;
-    write!(out, "plan {size_x} {size_y} {unit} {radius}")?;
+    let _ = write!(out, "plan {size_x} {size_y} {unit} {radius}");
     let d = Dimensions {
         size_x: size_x.value(),
         size_y: size_y.value(),
         unit: unit.value(),
         radius: radius.value(),
     };
-    print_measured(out, plan(d))?;
-    out.write_all(b"\n")
+    print_measured(out, plan(d));
+    let _ = out.write_all(b"\n");
+    Ok(())
 }
