@@ -1,27 +1,19 @@
--- Border cells: a place of a side has the index of its cell.
-use mathlib.Core.Path.{◌≡◌, ap, ◌∙◌}
+-- Border cells: place i of the two lists of a side.
+use mathlib.Core.Path.{◌≡◌, ap}
 use mathlib.Core.List.{List}
 use Prim.Native.Nat.{ℕ, ◌<◌}
-use native.Mathlib.Omega.{arith}
 use lib.ListN.{get_or}
 use Rattle.laws.specs.Table.{tabulate, table_at}
 use Rattle.model.specs.declared.FieldCell.{FieldCell}
 use Rattle.model.specs.declared.BorderCells.{BorderCells}
 use Rattle.model.specs.declared.Side.{Side}
-use Rattle.model.specs.Cells.{index_of, cell_at, opposite}
-use Rattle.model.specs.CellSides.{border_low}
-use Rattle.model.specs.Windows.{border_cell, border, border_cells}
+use Rattle.model.specs.Cells.{cell_at, opposite}
+use Rattle.model.specs.Windows.{border_cell, border_cells}
 
 -- ---- place i of a side's border cells
 module _ {row : List FieldCell} (side : Side) (e : row ≡ tabulate (border_cell side) 10 0) (i : ℕ) (h : i < 10) where
   row_at : get_or row i (cell_at 0) ≡ border_cell side i
   row_at = table_at (border_cell side) 10 e i (cell_at 0) h
-
-  pub index_is : {n r : ℕ} → n ≡ index_of (get_or row i (cell_at 0)) → r ≡ n → r ≡ border side i
-  index_is f g = g ∙ f ∙ ap index_of row_at
-
-  pub index_small : {n : ℕ} → n ≡ index_of (get_or row i (cell_at 0)) → n < 256
-  index_small {n} f = omega (arith, f ∙ ap index_of row_at, border_low side i h)
 
 module _ {cells : BorderCells} (side : Side) (e : cells ≡ border_cells side) (i : ℕ) (h : i < 10) where
   pub own_at : get_or cells.own i (cell_at 0) ≡ border_cell side i

@@ -51,11 +51,18 @@ pub fn cell_index(cell: FieldCell) -> usize
     usize::from(cell.row) * 10 + usize::from(cell.column)
 }
 
-// The index of the cell at a place of a side.
-#[tactic(auto, using(crate::proofs::Sides::index_is, crate::proofs::Sides::index_small))]
+// The index of the cell at a place of a side. Not read off `side_cells`: for an index those ten are all made, and the windows of a small hall take three times the instructions.
+#[tactic(auto, using(model::specs::CellSides::border_low))]
 pub fn border_index(side: Side, place: usize) -> u8
     requires { place < 10 }
     ensures { result ≡ border side place }
 {
-    cell_index(side_cells(side)[place]) as u8
+    let along = place as u8;
+    let (column, row) = match side {
+        Side::North => (along, 0),
+        Side::East => (9, along),
+        Side::South => (along, 9),
+        Side::West => (0, along),
+    };
+    cell_index(FieldCell { column, row }) as u8
 }
