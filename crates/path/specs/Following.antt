@@ -13,6 +13,7 @@ use Rattle.laws.specs.Graph.{Graph, Settled, turned}
 use Rattle.laws.specs.FirstPath.{Tight, better, closer, next, path}
 use Rattle.laws.specs.Keys.{few_edges}
 use Rattle.laws.specs.Tracing.{next_skip, next_take, next_same, Tracing, tracing_none, tracing_node, tracing_room, tracing_over, tracing_more}
+use Rattle.model.specs.declared.Measures.{Measures}
 use Rattle.model.specs.declared.Side.{Side}
 use Rattle.model.specs.Cells.{side_number}
 use Rattle.model.specs.Halls.{Hall}
@@ -24,7 +25,7 @@ use Rattle.model.specs.PortalEdges.{head_portal, portal_node, portal_sound}
 use Rattle.model.specs.LeastPathFirst.{portal_keyed, keys_settled}
 use Rattle.store.specs.declared.opened.Opened.{Opened}
 use Rattle.store.specs.Stored.{stored}
-use Rattle.graph.specs.EdgeTable.{bare, edge_table}
+use Rattle.graph.specs.EdgeTable.{bare, edge_table, table_graph}
 use Rattle.graph.specs.Reading.{fits_of}
 use Rattle.graph.specs.Edges.{graph_of, filled_graph}
 use Rattle.graph.specs.declared.table.Edges.{Edges}
@@ -74,38 +75,38 @@ module _ (g : Graph) (rank : ℕ → ℕ) (a : ℕ) where
 
 -- ---- one arc
 -- arc a from u to v
-module _ (edges : Edges) (keys : List ℕ) (u a : ℕ) (from : u ≡ arc_tail a) (v : ℕ) (to : v ≡ head_of (bare edges.measures) u (arc_place a)) where
-  head_is : v ≡ head_of (bare edges.measures) (arc_tail a) (arc_place a)
-  head_is = to ∙ ap (λ (x : ℕ). head_of (bare edges.measures) x (arc_place a)) from
+module _ (m : Measures) (table keys : List ℕ) (u a : ℕ) (from : u ≡ arc_tail a) (v : ℕ) (to : v ≡ head_of (bare m) u (arc_place a)) where
+  head_is : v ≡ head_of (bare m) (arc_tail a) (arc_place a)
+  head_is = to ∙ ap (λ (x : ℕ). head_of (bare m) x (arc_place a)) from
 
   -- a least path goes along it where the keys tell so
-  pub tight_where : (b : Bool) → 0 < get_or edges.weights.now a 0 → (b ≡ true → get_or keys u 0 ≡ get_or keys v 0 + get_or edges.weights.now a 0)
-      → (b ≡ false → get_or keys u 0 ≡ get_or keys v 0 + get_or edges.weights.now a 0 → ⊥)
-      → MatchOption (then_some b v) (Tight (graph_of edges) keys u a → ⊥) (λ x. (x ≡ (graph_of edges).head a) × Tight (graph_of edges) keys u a)
-  tight_where true pos exact other = (head_is, record { leaves = sym from; real = pos; exact = exact refl ∙ ap (λ (x : ℕ). get_or keys x 0 + get_or edges.weights.now a 0) head_is })
-  tight_where false pos exact other = λ t. other refl (t.exact ∙ sym (ap (λ (x : ℕ). get_or keys x 0 + get_or edges.weights.now a 0) head_is))
+  pub tight_where : (b : Bool) → 0 < get_or table a 0 → (b ≡ true → get_or keys u 0 ≡ get_or keys v 0 + get_or table a 0)
+      → (b ≡ false → get_or keys u 0 ≡ get_or keys v 0 + get_or table a 0 → ⊥)
+      → MatchOption (then_some b v) (Tight (table_graph m table) keys u a → ⊥) (λ x. (x ≡ (table_graph m table).head a) × Tight (table_graph m table) keys u a)
+  tight_where true pos exact other = (head_is, record { leaves = sym from; real = pos; exact = exact refl ∙ ap (λ (x : ℕ). get_or keys x 0 + get_or table a 0) head_is })
+  tight_where false pos exact other = λ t. other refl (t.exact ∙ sym (ap (λ (x : ℕ). get_or keys x 0 + get_or table a 0) head_is))
 
   module _ (rank : ℕ → ℕ) (best : ℕ) where
-    pub not_better : {b : Bool} → b ≡ better (graph_of edges) rank v best → b ≡ false → best ≡ closer (graph_of edges) rank keys u a best
-    not_better e f = next_skip (graph_of edges) rank keys u a best (λ p q r. false≢true (sym f ∙ e ∙ ap (λ (x : ℕ). better (graph_of edges) rank x best) head_is ∙ r))
+    pub not_better : {b : Bool} → b ≡ better (table_graph m table) rank v best → b ≡ false → best ≡ closer (table_graph m table) rank keys u a best
+    not_better e f = next_skip (table_graph m table) rank keys u a best (λ p q r. false≢true (sym f ∙ e ∙ ap (λ (x : ℕ). better (table_graph m table) rank x best) head_is ∙ r))
 
-    pub goes_there : {b : Bool} → 0 < get_or edges.weights.now a 0 → get_or keys u 0 ≡ get_or keys v 0 + get_or edges.weights.now a 0 → b ≡ better (graph_of edges) rank v best → b ≡ true
-        → v ≡ closer (graph_of edges) rank keys u a best
+    pub goes_there : {b : Bool} → 0 < get_or table a 0 → get_or keys u 0 ≡ get_or keys v 0 + get_or table a 0 → b ≡ better (table_graph m table) rank v best → b ≡ true
+        → v ≡ closer (table_graph m table) rank keys u a best
     goes_there p q e f =
         head_is
-        ∙ next_take (graph_of edges) rank keys u a best (sym from) p (q ∙ ap (λ (x : ℕ). get_or keys x 0 + get_or edges.weights.now a 0) head_is)
-        (sym (ap (λ (x : ℕ). better (graph_of edges) rank x best) head_is) ∙ sym e ∙ f)
+        ∙ next_take (table_graph m table) rank keys u a best (sym from) p (q ∙ ap (λ (x : ℕ). get_or keys x 0 + get_or table a 0) head_is)
+        (sym (ap (λ (x : ℕ). better (table_graph m table) rank x best) head_is) ∙ sym e ∙ f)
 
 -- ---- all arcs of u
-module _ (edges : Edges) (rank : ℕ → ℕ) (keys : List ℕ) (u : ℕ) where
-  pub next_begins : portal_count edges.measures ≡ next (graph_of edges) rank keys u (u * sector_portals)
+module _ (m : Measures) (table : List ℕ) (rank : ℕ → ℕ) (keys : List ℕ) (u : ℕ) where
+  pub next_begins : portal_count m ≡ next (table_graph m table) rank keys u (u * sector_portals)
   unfolding next
-  next_begins = let q : 0 + u * sector_portals ≡ u * sector_portals = omega arith in sym (rw q at (next_same (graph_of edges) rank keys u 0 (u * sector_portals) (λ e a b t. omega arith)))
+  next_begins = let q : 0 + u * sector_portals ≡ u * sector_portals = omega arith in sym (rw q at (next_same (table_graph m table) rank keys u 0 (u * sector_portals) (λ e a b t. omega arith)))
 
-  pub next_ends : (a : ℕ) → u * sector_portals + sector_portals ≡ a → a ≤ arc_count edges.measures → next (graph_of edges) rank keys u a ≡ next (graph_of edges) rank keys u (arc_count edges.measures)
+  pub next_ends : (a : ℕ) → u * sector_portals + sector_portals ≡ a → a ≤ arc_count m → next (table_graph m table) rank keys u a ≡ next (table_graph m table) rank keys u (arc_count m)
   next_ends a e l =
-      let q : a + (arc_count edges.measures - a) ≡ arc_count edges.measures = omega arith in
-      sym (rw q at (next_same (graph_of edges) rank keys u a (arc_count edges.measures - a) (λ f x y t. omega arith)))
+      let q : a + (arc_count m - a) ≡ arc_count m = omega arith in
+      sym (rw q at (next_same (table_graph m table) rank keys u a (arc_count m - a) (λ f x y t. omega arith)))
 
 -- ---- along the path
 -- i portals of the path from p are written, and u is the next

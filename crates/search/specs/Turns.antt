@@ -5,16 +5,17 @@ use Rattle.laws.specs.Relaxing.{relaxed}
 use Rattle.laws.specs.Waiting.{awaited}
 use Rattle.laws.specs.Extending.{ArcsOf}
 use Rattle.laws.specs.Turns.{Served, served_alone}
+use Rattle.model.specs.declared.Measures.{Measures}
 use Rattle.model.specs.Portals.{sector_portals, portal_count, portal_sector, portal_place, place_portal, arc_tail, arc_place, arc_at, head_of}
 use Rattle.model.specs.PortalEdges.{head_other}
-use Rattle.graph.specs.EdgeTable.{bare}
+use Rattle.graph.specs.EdgeTable.{bare, table_graph}
 use Rattle.graph.specs.Edges.{graph_of}
 use Rattle.graph.specs.declared.table.Edges.{Edges}
 use Rattle.search.specs.Searching.{Searched, searchable_of}
 
 -- the arcs of number u in the table
-pub arcs_of : (edges : Edges) (u : ℕ) → ArcsOf (graph_of edges) u (u * sector_portals) (u * sector_portals + sector_portals)
-arcs_of edges u e l p q = (omega arith, omega arith)
+pub arcs_of : (m : Measures) (table : List ℕ) (u : ℕ) → ArcsOf (table_graph m table) u (u * sector_portals) (u * sector_portals + sector_portals)
+arcs_of m table u e l p q = (omega arith, omega arith)
 
 -- none of the first n places of u within its sector offers less than the portal there has
 abbrev pub Offerless : List ℕ → List ℕ → ℕ → ℕ → Type 0
@@ -40,4 +41,4 @@ module _ {edges : Edges} (d : List ℕ) (p : List Bool) (u : ℕ) (given : Searc
       )
 
   pub served_own : Served (graph_of edges) u (u * sector_portals) d p (relaxed (graph_of edges) d (own_arc u)) (awaited (graph_of edges) d p (own_arc u))
-  served_own = served_alone d p (searchable_of given) l (arcs_of edges u) (omega arith) (omega arith) (λ e _ q t n. other e q t n)
+  served_own = served_alone d p (searchable_of given) l (arcs_of edges.measures edges.weights.now u) (omega arith) (omega arith) (λ e _ q t n. other e q t n)

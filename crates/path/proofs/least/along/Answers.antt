@@ -15,5 +15,5 @@ pub returns : goal.returns
 returns c =
     let rest = c.in_ok-rest.rest in
     let key = get_or c.args.keys.now c.head_of-v.result 0 in
-    rw c.then_some.ensures (tight_where c.args.edges _ _ _ c.requires.2 _ c.head_of-v.ensures _ (omega arith)
+    rw c.then_some.ensures (tight_where c.args.edges.measures c.args.edges.weights.now _ _ _ c.requires.2 _ c.head_of-v.ensures _ (omega arith)
     (λ e. omega (arith, eqb-true rest key e, c.in_ok-rest.ensures)) (λ e z. omega (arith, z, eqb-false rest key e, c.in_ok-rest.ensures)))

@@ -25,7 +25,7 @@ better-requires c = (there (goal.at.better-requires c).In-Some, c.requires.3)
 pub returns-in-Some-clause-is : goal.returns-in-Some-clause-is
 returns-in-Some-clause-is c =
     let t = c.in-Some.ensures.1 in
-    goes_there c.args.edges _ _ _ c.requires.2 _ (head_is (goal.at.returns-in-Some-clause-is c).In-Some) _ _ t.real
+    goes_there c.args.edges.measures c.args.edges.weights.now _ _ _ c.requires.2 _ (head_is (goal.at.returns-in-Some-clause-is c).In-Some) _ _ t.real
     (omega (arith, t.exact, ap (λ (x : ℕ). get_or c.args.keys.now x 0) c.in-Some.ensures.0)) (c.better.ensures (graph_of c.args.edges) (portal_inside c.requires.0)) c.if-better.true
 
 pub returns-in-Some-clause-some : goal.returns-in-Some-clause-some
@@ -33,7 +33,7 @@ returns-in-Some-clause-some c = there (goal.at.returns-in-Some-clause-some c).In
 
 pub returns-in_default-clause-is : goal.returns-in_default-clause-is
 returns-in_default-clause-is c =
-    not_better c.args.edges _ _ _ c.requires.2 _ (head_is (goal.at.returns-in_default-clause-is c).In-Some) _ _ (c.better.ensures (graph_of c.args.edges) (portal_inside c.requires.0)) c.if-better.false
+    not_better c.args.edges.measures c.args.edges.weights.now _ _ _ c.requires.2 _ (head_is (goal.at.returns-in_default-clause-is c).In-Some) _ _ (c.better.ensures (graph_of c.args.edges) (portal_inside c.requires.0)) c.if-better.false
 
 pub returns-in_default-2-clause-is : goal.returns-in_default-2-clause-is
 returns-in_default-2-clause-is c = next_skip _ _ _ _ _ _ (λ p q r. c.in_default.ensures (record { leaves = sym c.requires.2; real = p; exact = q }))

@@ -11,7 +11,7 @@ pub returns-clause-kept : goal.returns-clause-kept
 returns-clause-kept c =
     λ g o r ext s top w.
     c.take_turn.ensures.served.done g o r ext s top
-    (turn_begins ext c.args.edges.sound o r (omega arith) (arcs_of c.args.edges c.args.u) c.args.keys.now c.args.wait.now c.requires.room w)
+    (turn_begins ext c.args.edges.sound o r (omega arith) (arcs_of c.args.edges.measures c.args.edges.weights.now c.args.u) c.args.keys.now c.args.wait.now c.requires.room w)
 
 pub returns-clause-turn : goal.returns-clause-turn
 returns-clause-turn c =

@@ -25,6 +25,6 @@ loop-a-preserved c =
 pub returns-clause-served : goal.returns-clause-served
 returns-clause-served c = record {
   done = λ g o r ext s top w.
-      turn_ends ext c.args.edges.sound o r c.requires.1 (arcs_of c.args.edges c.args.u) c.loop-a.keys c.loop-a.wait c.loop-a-test.false (c.loop-a.invariant.1 g o r ext s top w);
+      turn_ends ext c.args.edges.sound o r c.requires.1 (arcs_of c.args.edges.measures c.args.edges.weights.now c.args.u) c.loop-a.keys c.loop-a.wait c.loop-a-test.false (c.loop-a.invariant.1 g o r ext s top w);
   light = c.loop-a.invariant.2;
 }
