@@ -19,7 +19,7 @@ use fields::sides::{SIDES, opposite};
 use model::{Measures, Refusal, Side};
 use portal::marks::side_mark;
 use portal::runs::window_count;
-use sector_cost::nearby::{PLACES, is_nearby, nearby};
+use sector_cost::nearby::{PLACES, is_nearby, nearby_sector};
 use sector_cost::rescale;
 use store::layout::{Store, write_hall};
 use store::opened::Opened;
@@ -41,7 +41,7 @@ fn remark(m: Measures, costs: &[u8], t: usize, marks: &mut [u16])
     ensures { marks.new ≡ remarked m costs.now t marks.old }
 {
     for k in 0..PLACES {
-        if let Some(s) = nearby(m, t, k) {
+        if let Some(s) = nearby_sector(m, t, k) {
             remark_sector(m, costs, s, marks);
         }
     }
@@ -82,7 +82,7 @@ fn place_exceeds(m: Measures, marks: &[u16], t: usize, k: usize) -> bool
     requires { Accepted m × Small marks.now × (t < sectors m) × (k < 9) }
     ensures { result ≡ place_exceeds (hall_of m [] [] marks.now) t k }
 {
-    nearby(m, t, k).is_some_and(|s| sector_exceeds(m, marks, t, s))
+    nearby_sector(m, t, k).is_some_and(|s| sector_exceeds(m, marks, t, s))
 }
 
 // Whether any side of the hall does. Only sides of the sectors around t can.

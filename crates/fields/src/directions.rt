@@ -55,15 +55,30 @@ fn on_axis(n: usize, wide: usize) -> bool
     1 <= n && n <= wide
 }
 
-// The sector to which a shift leads from sector s, or None past the end of the floor.
+// Whether a shift leads from sector s to a sector of the floor.
 #[tactic(auto, unfolding(model::specs::Directions::on_floor))]
+pub fn on_floor(m: Measures, s: usize, by: Shift) -> bool
+    requires { (1 ≤ m.rows) × (s ≤ 10000) }
+    ensures { result ≡ on_floor m s by.east by.south }
+{
+    let rows = usize::from(m.rows);
+    let column = s / rows + by.east;
+    on_axis(column, usize::from(m.columns)) && on_axis(s % rows + by.south, rows)
+}
+
+// The number that a shift gives from sector s: on the floor that of the sector to which it leads.
+pub fn shifted(m: Measures, s: usize, by: Shift) -> usize
+    requires { (1 ≤ m.rows) × (s ≤ 10000) }
+    ensures { result ≡ shifted m s by.east by.south }
+{
+    let rows = usize::from(m.rows);
+    (s / rows + by.east).saturating_sub(1) * rows + (s % rows + by.south).saturating_sub(1)
+}
+
+// The sector to which a shift leads from sector s, or None past the end of the floor.
 pub fn towards(m: Measures, s: usize, by: Shift) -> Option<usize>
     requires { (1 ≤ m.rows) × (s ≤ 10000) }
     ensures { result ≡ then_some (on_floor m s by.east by.south) (shifted m s by.east by.south) }
 {
-    let rows = usize::from(m.rows);
-    let column = s / rows + by.east;
-    let row = s % rows + by.south;
-    let is_on_floor = on_axis(column, usize::from(m.columns)) && on_axis(row, rows);
-    is_on_floor.then_some(column.saturating_sub(1) * rows + row.saturating_sub(1))
+    on_floor(m, s, by).then_some(shifted(m, s, by))
 }

@@ -63,10 +63,11 @@ fn having(levels: &[[u64; 2]; 101], n: usize, i: usize) -> usize
 }
 
 // A spread of moves over a sector from one of its cells.
+// Its fields are public, so that any levels may be asked, by the first `count` of them.
 #[derive(Drop)]
 pub struct Spread {
-    levels: [[u64; 2]; 101],
-    count: usize,
+    pub levels: [[u64; 2]; 101],
+    pub count: usize,
 }
 
 // It is the list of the fewest moves to each of the 100 cells, with 255 where none lead.

@@ -13,7 +13,7 @@ ghost use Rattle.walks.specs.Board.{board_of};
 ghost use Rattle.walks.specs.Costs.{Costs};
 ghost use Rattle.walks.specs.Walks.{Shows};
 
-use crate::nearby::{PLACES, nearby};
+use crate::nearby::{PLACES, nearby_sector};
 use fields::copies::copy_part;
 use fields::costs::is_open;
 use fields::sectors::{SECTOR_CELLS, sectors};
@@ -93,7 +93,7 @@ fn reset_nearby(m: Measures, base: &[u8], t: usize, scaled: &mut [u8])
     ensures { scaled.new ≡ run (at_nearby m t (reset_sector base.now)) 9 scaled.old }
 {
     for k in 0..PLACES {
-        if let Some(s) = nearby(m, t, k) {
+        if let Some(s) = nearby_sector(m, t, k) {
             reset_sector(base, s, scaled);
         }
     }
@@ -106,7 +106,7 @@ fn scale_nearby(m: Measures, base: &[u8], t: usize, scaled: &mut [u8], board: &m
     ensures { scaled.new ≡ run (at_nearby m t (scale_sector m base.now)) 9 scaled.old }
 {
     for k in 0..PLACES {
-        if let Some(s) = nearby(m, t, k) {
+        if let Some(s) = nearby_sector(m, t, k) {
             scale_costfield(m, base, s, scaled, board);
         }
     }

@@ -15,8 +15,8 @@ loop-k-preserved c =
     let step = reset_sector c.args.base.now in
     let xs = c.loop-k.scaled in
     ran_turn c.loop-k.invariant (search rules)
-    (elim c.match-nearby.branch [
-      | in-Some w ↦ w.scaled-is ∙ w.reset_sector.ensures ∙ place_some step _ _ _ xs c.nearby.ensures w.in-Some.is
-      | in_default w ↦ w.scaled-is ∙ place_none step _ _ xs c.nearby.ensures w.in_default.is
+    (elim c.match-nearby_sector.branch [
+      | in-Some w ↦ w.scaled-is ∙ w.reset_sector.ensures ∙ place_some step _ _ _ xs c.nearby_sector.ensures w.in-Some.is
+      | in_default w ↦ w.scaled-is ∙ place_none step _ _ xs c.nearby_sector.ensures w.in_default.is
     ])
     (search rules)

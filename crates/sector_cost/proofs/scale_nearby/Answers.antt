@@ -15,9 +15,9 @@ loop-k-preserved c =
     let step = scale_sector c.args.m c.args.base.now in
     let xs = c.loop-k.scaled in (
       ran_turn c.loop-k.invariant.0 (search rules)
-          (elim c.match-nearby.branch [
-            | in-Some w ↦ w.scaled-is ∙ w.scale_costfield.ensures.list ∙ place_some step _ _ _ xs c.nearby.ensures w.in-Some.is
-            | in_default w ↦ w.scaled-is ∙ place_none step _ _ xs c.nearby.ensures w.in_default.is
+          (elim c.match-nearby_sector.branch [
+            | in-Some w ↦ w.scaled-is ∙ w.scale_costfield.ensures.list ∙ place_some step _ _ _ xs c.nearby_sector.ensures w.in-Some.is
+            | in_default w ↦ w.scaled-is ∙ place_none step _ _ xs c.nearby_sector.ensures w.in_default.is
           ])
           (search rules),
       search rules,

@@ -16,9 +16,9 @@ loop-k-preserved c =
     let step = sector_fresh c.args.m c.args.costs.now in
     let xs = c.loop-k.marks in
     ran_turn c.loop-k.invariant (search rules)
-    (elim c.match-nearby.branch [
-      | in-Some w ↦ w.marks-is ∙ w.remark_sector.ensures ∙ place_some step _ _ _ xs c.nearby.ensures w.in-Some.is
-      | in_default w ↦ w.marks-is ∙ place_none step _ _ xs c.nearby.ensures w.in_default.is
+    (elim c.match-nearby_sector.branch [
+      | in-Some w ↦ w.marks-is ∙ w.remark_sector.ensures ∙ place_some step _ _ _ xs c.nearby_sector.ensures w.in-Some.is
+      | in_default w ↦ w.marks-is ∙ place_none step _ _ xs c.nearby_sector.ensures w.in_default.is
     ])
     (search rules)
 
