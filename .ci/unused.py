@@ -46,7 +46,6 @@ KEPT = {
     "model/specs/RouteChosen.antt:chosen_leads": "01's choice of a pair, for its reader",
     "model/specs/RouteChosen.antt:chosen_none": "01's choice of a pair, for its reader",
     "model/specs/WindowRuns.antt:in_order": "01's order of windows, for its reader",
-    "sector_cost/src/nearby.rt:is_there": "the places around a sector by nearby and is_there, for their reader",
     "fields/specs/Bits.antt:marked_small": UNCITED,
     "fields/specs/Bits.antt:with_open": UNCITED,
     "fields/specs/Bits.antt:with_shut": UNCITED,
@@ -199,12 +198,12 @@ def unused_in(path, lines, used, sources):
     where = str(path.relative_to(CRATES))
     if path.name in ("Answers.antt", "Invariants.antt") or any(where == kept or where.startswith(kept + "/") for kept in KEPT):
         return []
-    kept = {name.split(":")[1] for name in KEPT if name.startswith(where + ":")}
     if path.suffix == ".rt":
         declared = {module.split(".")[2] for _, module in used if module.startswith("specs.declared.")}
-        names = unused_code("\n".join(lines[path]), declared.union(kept, *(sources[p] for p in sources if p != path)))
+        names = unused_code("\n".join(lines[path]), declared.union(*(sources[p] for p in sources if p != path)))
     else:
         crate, *parts = path.relative_to(CRATES).with_suffix("").parts
+        kept = {name.split(":")[1] for name in KEPT if name.startswith(where + ":")}
         names = unused_specs(declarations(lines[path]), used.get((crate, ".".join(parts)), set()) | kept)
     return [(where, name) for name in names]
 

@@ -19,7 +19,7 @@ use fields::sides::{SIDES, opposite};
 use model::{Measures, Refusal, Side};
 use portal::marks::side_mark;
 use portal::runs::window_count;
-use sector_cost::nearby::{PLACES, is_nearby, nearby_sector};
+use sector_cost::nearby::{PLACES, is_nearby, is_there, nearby, nearby_sector};
 use sector_cost::rescale;
 use store::layout::{Store, write_hall};
 use store::opened::Opened;
@@ -82,7 +82,7 @@ fn place_exceeds(m: Measures, marks: &[u16], t: usize, k: usize) -> bool
     requires { Accepted m × Small marks.now × (t < sectors m) × (k < 9) }
     ensures { result ≡ place_exceeds (hall_of m [] [] marks.now) t k }
 {
-    nearby_sector(m, t, k).is_some_and(|s| sector_exceeds(m, marks, t, s))
+    is_there(m, t, k) && sector_exceeds(m, marks, t, nearby(m, t, k))
 }
 
 // Whether any side of the hall does. Only sides of the sectors around t can.
