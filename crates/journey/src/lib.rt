@@ -11,7 +11,7 @@ ghost use Rattle.journey.specs.Parts.{ClaimsReached};
 
 use hall_route::route;
 use model::{Refusal, Route};
-use reach::{HallCall, reach};
+use reach::reach;
 
 // A route call that may come last: on a reached hall its answer keeps the claim of demand 3.
 pub fn route_reached(
@@ -33,7 +33,7 @@ pub fn route_after(
     rows: u8,
     scale: u8,
     base: &[u8],
-    calls: &[HallCall],
+    calls: &[u32],
     source: usize,
     goal: usize,
     st: &mut [u8],

@@ -1,10 +1,9 @@
 -- Facts for the proofs: calls made in turn, and what build and the calls leave.
-use Prim.Native.Nat.{ℕ, suc, ◌+◌, ◌/◌, ◌≤◌}
-use mathlib.Core.Path.{◌≡◌, sym, ap, ◌∙◌}
-use mathlib.Core.List.{List, [], ◌∷◌}
-use lib.ListN.{length, drop}
-use Rattle.std.proofs.Common.{add-one}
-use Rattle.std.proofs.Math.ListN.{drop_of_length-le}
+use Prim.Native.Nat.{ℕ, ◌/◌, ◌<◌}
+use native.Mathlib.Omega.{arith}
+use mathlib.Core.Path.{◌≡◌, refl, sym, ap, ◌∙◌}
+use mathlib.Core.List.{List, [], ◌∷◌, ◌++◌}
+use lib.ListN.{length, get_or}
 use Rattle.model.specs.declared.Measures.{Measures}
 use Rattle.model.specs.declared.Refusal.{Refusal}
 use Rattle.model.specs.Numbers.{number, some_number}
@@ -13,23 +12,41 @@ use Rattle.model.specs.Calls.{if_accepted, build_number, build_into, store_after
 use Rattle.model.specs.Refusals.{not_accepted}
 use Rattle.hall.proofs.Building.{build_kept}
 use Rattle.reach.specs.declared.HallCall.{HallCall}
-use Rattle.reach.specs.Reach.{call_of, calls_in, steps_after_call, steps_after, reach_into, reach_steps}
+use Rattle.reach.specs.Reach.{hall_call, call_of, calls_in, steps_after_call, steps_after, reach_into, reach_steps}
 
 -- ---- calls made in turn
--- the calls before place `at` of the list are made: those that are left lead to where all of them lead from the start
-pub record Made (calls : List HallCall) (at : ℕ) (st₀ steps₀ st steps : List ℕ) : Type 0 where
-  pub same_steps : length steps ≡ length steps₀
-  pub to_store : store_after st (calls_in (length steps₀ / 6) (drop at calls)) ≡ store_after st₀ (calls_in (length steps₀ / 6) calls)
-  pub to_steps : steps_after st (calls_in (length steps₀ / 6) (drop at calls)) steps ≡ steps_after st₀ (calls_in (length steps₀ / 6) calls) steps₀
+-- three numbers are the first call, and fewer are none
+first_call : (room : ℕ) (numbers rest : List ℕ) → length numbers ≡ 3
+    → calls_in room (numbers ++ rest) ≡ call_of room (hall_call (get_or numbers 0 0) (get_or numbers 1 0) (get_or numbers 2 0)) ∷ calls_in room rest
+unfolding calls_in
+first_call room [] rest l = absurd (omega arith)
+first_call room (x ∷ []) rest l = absurd (omega arith)
+first_call room (x ∷ y ∷ []) rest l = absurd (omega arith)
+first_call room (x ∷ y ∷ z ∷ []) rest l = refl
+first_call room (x ∷ y ∷ z ∷ w ∷ more) rest l = absurd (omega arith)
 
-module _ {calls : List HallCall} {at : ℕ} {st₀ steps₀ st steps : List ℕ} (m : Made calls at st₀ steps₀ st steps) where
-  pub made_turn : {st' steps' : List ℕ} (c : HallCall) → drop at calls ≡ c ∷ drop (suc at) calls
+no_call : (room : ℕ) (rest : List ℕ) → length rest < 3 → calls_in room rest ≡ []
+unfolding calls_in
+no_call room [] l = refl
+no_call room (x ∷ []) l = refl
+no_call room (x ∷ y ∷ []) l = refl
+no_call room (x ∷ y ∷ z ∷ rest) l = absurd (omega arith)
+
+-- the calls before `rest` are made: those that are left lead to where all of them lead from the start
+pub record Made (calls rest st₀ steps₀ st steps : List ℕ) : Type 0 where
+  pub same_steps : length steps ≡ length steps₀
+  pub to_store : store_after st (calls_in (length steps₀ / 6) rest) ≡ store_after st₀ (calls_in (length steps₀ / 6) calls)
+  pub to_steps : steps_after st (calls_in (length steps₀ / 6) rest) steps ≡ steps_after st₀ (calls_in (length steps₀ / 6) calls) steps₀
+
+module _ {calls rest st₀ steps₀ st steps : List ℕ} (m : Made calls rest st₀ steps₀ st steps) where
+  pub made_turn : (numbers : List ℕ) {left st' steps' : List ℕ} {c : HallCall} → rest ≡ numbers ++ left → length numbers ≡ 3
+      → c ≡ hall_call (get_or numbers 0 0) (get_or numbers 1 0) (get_or numbers 2 0)
       → st' ≡ store_after_call st (call_of (length steps / 6) c) → steps' ≡ steps_after_call st (call_of (length steps / 6) c) steps
-      → length steps' ≡ length steps → Made calls (at + 1) st₀ steps₀ st' steps'
+      → length steps' ≡ length steps → Made calls left st₀ steps₀ st' steps'
   unfolding store_after steps_after
-  made_turn {st'} {steps'} c first e f l =
-      let next : drop at calls ≡ c ∷ drop (at + 1) calls = first ∙ ap (λ (k : ℕ). c ∷ drop k calls) (sym (add-one at)) in
+  made_turn numbers {left} {st'} {steps'} {c} cut three is e f l =
       let room = length steps₀ / 6 in
+      let next : calls_in room rest ≡ call_of room c ∷ calls_in room left = ap (calls_in room) cut ∙ first_call room numbers left three ∙ rw is in
       let st_is : st' ≡ store_after_call st (call_of room c) = e ∙ rw m.same_steps in
       let steps_is : steps' ≡ steps_after_call st (call_of room c) steps = f ∙ rw m.same_steps in
       record {
@@ -38,10 +55,10 @@ module _ {calls : List HallCall} {at : ℕ} {st₀ steps₀ st steps : List ℕ}
         to_steps = rw (st_is, steps_is) (rw next at m.to_steps);
       }
 
-  -- none is left
-  module _ (over : length calls ≤ at) where
-    none_left : drop at calls ≡ []
-    none_left = drop_of_length-le calls over
+  -- fewer than three numbers are left
+  module _ (over : length rest < 3) where
+    none_left : calls_in (length steps₀ / 6) rest ≡ []
+    none_left = no_call (length steps₀ / 6) rest over
 
     pub made_store : st ≡ store_after st₀ (calls_in (length steps₀ / 6) calls)
     unfolding store_after

@@ -1,5 +1,6 @@
 -- A hall built, and a list of calls made in turn on its store: what this leaves in the memory that it is lent, and that it is a reached hall.
-use Rattle.std.specs.Prelude.{ℕ, ◌≡◌, refl, List, [], ◌∷◌}
+use Rattle.std.specs.Prelude.{ℕ, ◌%◌, ◌≡◌, refl, List, [], ◌∷◌, eqb}
+use Rattle.laws.specs.Fold.{pick}
 use Rattle.model.specs.declared.Measures.{Measures}
 use Rattle.model.specs.Account.{Call, change, route, opening, account_after}
 use Rattle.model.specs.Calls.{if_accepted, build_number, build_into, route_flat, store_after_call, store_after}
@@ -7,19 +8,26 @@ use Rattle.reach.specs.declared.HallCall.{HallCall}
 use Rattle.reach.specs.declared.HallCall.TheVariants.{Change, Route}
 use Rattle.audit.specs.Reached.{ChangesOnlyAtScale1, Reached, reached}
 
--- ---- the list of calls
+-- ---- the list of calls, lent as numbers
+-- a call by three numbers: kind 0 changes the cell of floor number a to the cost in b, whose low byte counts; any other kind is a route call from a to b
+unfoldable pub hall_call : ℕ → ℕ → ℕ → HallCall
+hall_call kind a b = pick (eqb kind 0) (Change a (b % 256)) (Route a b)
+
 -- room is how many steps the lent list holds
 unfoldable pub call_of : ℕ → HallCall → Call
 call_of room (Change cell cost) = change cell cost
 call_of room (Route source goal) = route source goal room
 
-abbrev pub calls_in : ℕ → List HallCall → List Call
+-- three numbers a call; one or two that are left at the end make no call
+unfoldable pub calls_in : ℕ → List ℕ → List Call
 calls_in room [] = []
-calls_in room (c ∷ rest) = call_of room c ∷ calls_in room rest
+calls_in room (_ ∷ []) = []
+calls_in room (_ ∷ _ ∷ []) = []
+calls_in room (kind ∷ a ∷ b ∷ rest) = call_of room (hall_call kind a b) ∷ calls_in room rest
 
--- two changes and a route call
-example : calls_in 1001 (Change 0 255 ∷ Change 200 1 ∷ Route 5 7 ∷ []) ≡ change 0 255 ∷ change 200 1 ∷ route 5 7 1001 ∷ []
-unfolding call_of
+-- two changes, a route call, and a number to spare
+example : calls_in 1001 (0 ∷ 0 ∷ 255 ∷ 0 ∷ 200 ∷ 257 ∷ 1 ∷ 5 ∷ 7 ∷ 9 ∷ []) ≡ change 0 255 ∷ change 200 1 ∷ route 5 7 1001 ∷ []
+unfolding calls_in call_of hall_call
 example = refl
 
 -- ---- what is lent, after calls

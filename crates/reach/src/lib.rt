@@ -1,10 +1,10 @@
 // A hall is built, and a list of calls is made in turn on its store: what a claim about a hall "built, or changed since" begins with.
 #![tactic(auto)]
 
-ghost use Rattle.std.specs.Prelude.{◌≡◌, ◌/◌, length};
+ghost use Rattle.std.specs.Prelude.{◌≡◌, ◌/◌, length, get_or};
 ghost use Rattle.model.specs.Numbers.{number_of};
 ghost use Rattle.model.specs.Calls.{measures_of, build_number, store_after_call, store_after};
-ghost use Rattle.reach.specs.Reach.{call_of, calls_in, steps_after_call, steps_after, reach_into, reach_steps, Reaches};
+ghost use Rattle.reach.specs.Reach.{hall_call, call_of, calls_in, steps_after_call, steps_after, reach_into, reach_steps, Reaches};
 
 use hall::build::build;
 use hall::change::change;
@@ -16,6 +16,26 @@ use model::Refusal;
 pub enum HallCall {
     Change { cell: usize, cost: u8 },
     Route { source: usize, goal: usize },
+}
+
+// A call by three numbers: kind 0 changes the cell of floor number a to the low byte of b, any other kind asks for a route from a to b.
+impl From<[u32; 3]> for HallCall {
+    ghost from_gives = { λ numbers call. call ≡ hall_call (get_or numbers 0 0) (get_or numbers 1 0) (get_or numbers 2 0) };
+
+    #[tactic(auto, unfolding(crate::specs::Reach::hall_call))]
+    fn from([kind, a, b]: [u32; 3]) -> HallCall {
+        if kind == 0 {
+            HallCall::Change {
+                cell: a as usize,
+                cost: b.to_le_bytes()[0],
+            }
+        } else {
+            HallCall::Route {
+                source: a as usize,
+                goal: b as usize,
+            }
+        }
+    }
 }
 
 // Makes one call. What it answers is not kept.
@@ -33,13 +53,14 @@ fn make_call(call: HallCall, st: &mut [u8], steps: &mut [u8])
     }
 }
 
-// Makes the calls of a list in turn.
-fn make_calls(calls: &[HallCall], st: &mut [u8], steps: &mut [u8])
+// Makes the calls of a list in turn, three numbers a call.
+fn make_calls(calls: &[u32], st: &mut [u8], steps: &mut [u8])
     ensures store { st.new ≡ store_after st.old (calls_in (length steps.old / 6) calls.now) }
     ensures steps { steps.new ≡ steps_after st.old (calls_in (length steps.old / 6) calls.now) steps.old }
 {
-    for call in calls {
-        make_call(*call, st, steps);
+    for numbers in calls.chunks_exact(3) {
+        let call = HallCall::from([numbers[0], numbers[1], numbers[2]]);
+        make_call(call, st, steps);
     }
 }
 
@@ -49,7 +70,7 @@ pub fn reach(
     rows: u8,
     scale: u8,
     base: &[u8],
-    calls: &[HallCall],
+    calls: &[u32],
     st: &mut [u8],
     steps: &mut [u8],
 ) -> Result<(), Refusal>

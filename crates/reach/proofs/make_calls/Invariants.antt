@@ -1,6 +1,12 @@
 -- `make_calls` makes the calls of its list in turn: those that are left lead to where all lead from the start.
+use Rattle.std.proofs.Common.{◌≡◌}
+use Rattle.std.specs.Slice.Iter.{chunks_exact_rest, chunks_exact_size}
 use Rattle.reach.proofs.Calling.{Made}
 use Rattle.reach.proofs.make_calls.Given as goal
 
-abbrev pub invariant-loop-call : goal.invariant-loop-call
-invariant-loop-call l = Made l.calls l.call-index l.initial.st l.initial.steps l.st l.steps
+abbrev pub invariant-loop-numbers : goal.invariant-loop-numbers
+invariant-loop-numbers l =
+    goal.iterator-loop-numbers.can_next l.numbers-iterator
+    × goal.iterator-loop-numbers.is_finite l.numbers-iterator
+    × (chunks_exact_size l.numbers-iterator ≡ 3)
+    × Made l.fn.calls (chunks_exact_rest l.numbers-iterator) l.initial.st l.initial.steps l.st l.steps
