@@ -12,11 +12,16 @@ use Rattle.model.specs.declared.Refusal.{Refusal}
 use Rattle.model.specs.Numbers.{number, refusal, refusal_lem, some_number}
 use Rattle.model.specs.Account.{Call}
 use Rattle.model.specs.Calls.{if_accepted, build_number, build_into, Routed, route_answer, route_flat, store_after}
+use Rattle.model.specs.Answers.{RouteAnswers, route_case}
 use Rattle.audit.specs.Claim.{Demand3}
 use Rattle.reach.specs.Reach.{steps_after, reach_into, reach_steps, Reaches}
 use Rattle.reach.proofs.Calling.{old_kept, refused_steps}
 use Rattle.journey.specs.Journey.{journey_answer, journey_steps}
-use Rattle.journey.specs.Parts.{ClaimsReached, parts_promise, refused_promise}
+use Rattle.journey.specs.Parts.{ClaimsReached, answer_claims, parts_promise, refused_promise}
+
+-- of a route call's answer the theorem speaks
+pub routed_keeps : (st : List ℕ) (source goal room : ℕ) (r : Routed) → RouteAnswers st source goal room r → ClaimsReached st source goal room r
+routed_keeps st source goal room r a = answer_claims st source goal room (route_case st source goal room a)
 
 module _ (m : Measures) (base lent : List ℕ) (list : List Call) (source goal : ℕ) (steps : List ℕ) where
   -- build refuses

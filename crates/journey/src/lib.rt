@@ -14,6 +14,7 @@ use model::{Refusal, Route};
 use reach::reach;
 
 // A route call that may come last: on a reached hall its answer keeps the claim of demand 3.
+#[tactic(auto, using(crate::proofs::Asking::routed_keeps))]
 pub fn route_reached(
     st: &[u8],
     source: usize,

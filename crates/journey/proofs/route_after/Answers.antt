@@ -19,8 +19,8 @@ pub returns : goal.returns
 returns c =
     let is = c.in_ok-reach.ensures.answer in
     record {
-      answer = asked_answer _ _ _ _ _ _ c.args.steps.now is c.reach.ensures.store _ (route_case _ _ _ _ c.route_reached.ensures.answer) (search rules);
+      answer = asked_answer _ _ _ _ _ _ c.args.steps.now is c.reach.ensures.store c.reach.new.steps (search (rules, route_case)) (search rules);
       store = search rules;
-      steps = asked_steps _ _ _ _ _ _ _ is c.reach.ensures.store c.reach.ensures.steps c.route_reached.ensures.steps;
-      demand3 = asked_keeps _ _ c.reach.ensures.reached c.route_reached.ensures.claim (search rules);
+      steps = asked_steps _ _ _ _ _ _ _ is c.reach.ensures.store c.reach.ensures.steps (search rules);
+      demand3 = asked_keeps _ c.reach.new.steps c.reach.ensures.reached (search rules) (search rules);
     }
