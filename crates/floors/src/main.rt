@@ -26,7 +26,7 @@ fn replay<R: Read, W: Write>(input: &mut R, out: &mut W, store: &mut [u8]) -> io
     Ok(true)
 }
 
-// A proved loop has to end, so its turns are counted, up to a number that no list uses up.
+// A proved loop has to end, so its turns are counted: of a longer list the first million entries are replayed.
 fn replay_all<R: Read, W: Write>(input: &mut R, out: &mut W) -> io::Result<()> {
     let mut store = [0u8; 20804];
     for _ in 0..1000000 {

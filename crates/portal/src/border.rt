@@ -51,7 +51,7 @@ pub fn cell_index(cell: FieldCell) -> usize
     usize::from(cell.row) * 10 + usize::from(cell.column)
 }
 
-// The index of the cell at a place of a side. Not read off `side_cells`: for an index those ten are all made, and the windows of a small hall take three times the instructions.
+// The index of the cell at a place of a side. Not read off `side_cells`: all ten are made for an index then, and the windows of a small hall take up to three times the instructions.
 #[tactic(auto, using(model::specs::CellSides::border_low))]
 pub fn border_index(side: Side, place: usize) -> u8
     requires { place < 10 }
