@@ -1,6 +1,10 @@
 // Demand 3 of the running code: a hall is built, a list of calls is made in turn on its store, and the last route call answers.
 #![tactic(auto)]
 
+pub mod numbers;
+#[cfg(test)]
+mod tests;
+
 ghost use Rattle.std.specs.Prelude.{◌≡◌, ◌/◌, length};
 ghost use Rattle.model.specs.Calls.{measures_of, route_flat};
 ghost use Rattle.model.specs.Answers.{RouteAnswers};
@@ -11,7 +15,7 @@ ghost use Rattle.journey.specs.Parts.{ClaimsReached};
 
 use hall_route::route;
 use model::{Refusal, Route};
-use reach::reach;
+use reach::{HallCall, reach};
 
 // A route call that may come last: on a reached hall its answer keeps the claim of demand 3.
 #[tactic(auto, using(crate::proofs::Asking::routed_keeps))]
@@ -34,7 +38,7 @@ pub fn route_after(
     rows: u8,
     scale: u8,
     base: &[u8],
-    calls: &[u32],
+    calls: &[HallCall],
     source: usize,
     goal: usize,
     st: &mut [u8],

@@ -8,27 +8,37 @@ use Rattle.reach.specs.declared.HallCall.{HallCall}
 use Rattle.reach.specs.declared.HallCall.TheVariants.{Change, Route}
 use Rattle.audit.specs.Reached.{ChangesOnlyAtScale1, Reached, reached}
 
--- ---- the list of calls, lent as numbers
--- a call by three numbers: kind 0 changes the cell of floor number a to the cost in b, whose low byte counts; any other kind is a route call from a to b
-unfoldable pub hall_call : ℕ → ℕ → ℕ → HallCall
-hall_call kind a b = pick (eqb kind 0) (Change a (b % 256)) (Route a b)
-
+-- ---- the list of calls
 -- room is how many steps the lent list holds
 unfoldable pub call_of : ℕ → HallCall → Call
 call_of room (Change cell cost) = change cell cost
 call_of room (Route source goal) = route source goal room
 
--- three numbers a call; one or two that are left at the end make no call
-unfoldable pub calls_in : ℕ → List ℕ → List Call
+abbrev pub calls_in : ℕ → List HallCall → List Call
 calls_in room [] = []
-calls_in room (_ ∷ []) = []
-calls_in room (_ ∷ _ ∷ []) = []
-calls_in room (kind ∷ a ∷ b ∷ rest) = call_of room (hall_call kind a b) ∷ calls_in room rest
+calls_in room (c ∷ rest) = call_of room c ∷ calls_in room rest
+
+-- two changes and a route call
+example : calls_in 1001 (Change 0 255 ∷ Change 200 1 ∷ Route 5 7 ∷ []) ≡ change 0 255 ∷ change 200 1 ∷ route 5 7 1001 ∷ []
+unfolding call_of
+example = refl
+
+-- ---- the list of calls, lent as numbers
+-- a call by three numbers: kind 0 changes the cell of floor number a to the cost in b, whose low byte counts; any other kind is a route call from a to b
+unfoldable pub hall_call : ℕ → ℕ → ℕ → HallCall
+hall_call kind a b = pick (eqb kind 0) (Change a (b % 256)) (Route a b)
+
+-- three numbers a call; one or two that are left at the end make no call
+unfoldable pub calls_in_numbers : ℕ → List ℕ → List Call
+calls_in_numbers room [] = []
+calls_in_numbers room (_ ∷ []) = []
+calls_in_numbers room (_ ∷ _ ∷ []) = []
+calls_in_numbers room (kind ∷ a ∷ b ∷ rest) = call_of room (hall_call kind a b) ∷ calls_in_numbers room rest
 
 -- two changes, a route call, and a number to spare
-example : calls_in 1001 (0 ∷ 0 ∷ 255 ∷ 0 ∷ 200 ∷ 257 ∷ 1 ∷ 5 ∷ 7 ∷ 9 ∷ []) ≡ change 0 255 ∷ change 200 1 ∷ route 5 7 1001 ∷ []
-unfolding calls_in call_of hall_call
-example = refl
+example_numbers : calls_in_numbers 1001 (0 ∷ 0 ∷ 255 ∷ 0 ∷ 200 ∷ 257 ∷ 1 ∷ 5 ∷ 7 ∷ 9 ∷ []) ≡ change 0 255 ∷ change 200 1 ∷ route 5 7 1001 ∷ []
+unfolding calls_in_numbers call_of hall_call
+example_numbers = refl
 
 -- ---- what is lent, after calls
 -- the step list: route calls write it, on the store as it is then

@@ -1,6 +1,10 @@
 // A hall is built, and a list of calls is made in turn on its store: what a claim about a hall "built, or changed since" begins with.
 #![tactic(auto)]
 
+pub mod numbers;
+#[cfg(test)]
+mod tests;
+
 ghost use Rattle.std.specs.Prelude.{◌≡◌, ◌/◌, length, get_or};
 ghost use Rattle.model.specs.Numbers.{number_of};
 ghost use Rattle.model.specs.Calls.{measures_of, build_number, store_after_call, store_after};
@@ -53,14 +57,13 @@ fn make_call(call: HallCall, st: &mut [u8], steps: &mut [u8])
     }
 }
 
-// Makes the calls of a list in turn, three numbers a call.
-fn make_calls(calls: &[u32], st: &mut [u8], steps: &mut [u8])
+// Makes the calls of a list in turn.
+fn make_calls(calls: &[HallCall], st: &mut [u8], steps: &mut [u8])
     ensures store { st.new ≡ store_after st.old (calls_in (length steps.old / 6) calls.now) }
     ensures steps { steps.new ≡ steps_after st.old (calls_in (length steps.old / 6) calls.now) steps.old }
 {
-    for numbers in calls.chunks_exact(3) {
-        let call = HallCall::from([numbers[0], numbers[1], numbers[2]]);
-        make_call(call, st, steps);
+    for call in calls {
+        make_call(*call, st, steps);
     }
 }
 
@@ -70,7 +73,7 @@ pub fn reach(
     rows: u8,
     scale: u8,
     base: &[u8],
-    calls: &[u32],
+    calls: &[HallCall],
     st: &mut [u8],
     steps: &mut [u8],
 ) -> Result<(), Refusal>

@@ -1,21 +1,18 @@
 -- `make_calls` makes the calls of its list in turn: those that are left lead to where all lead from the start.
-use Rattle.std.proofs.Common.{◌∙◌}
-use Rattle.reach.proofs.Calling.{made_turn, made_store, made_steps}
+use Rattle.std.proofs.Common.{add-one, ap}
+use Rattle.std.proofs.Math.ListN.{drop_of_length-le}
+use Rattle.std.proofs.Math.Seq.{drop-cons}
+use Rattle.reach.specs.Reach.{calls_in}
+use Rattle.reach.proofs.Calling.{leads_turn, leads_store, leads_steps}
 use borrow.Author.Rules.{rules}
 use Rattle.reach.proofs.make_calls.Goals as goal
 
-pub loop-numbers-preserved : goal.loop-numbers-preserved
-loop-numbers-preserved c =
-    let before = c.loop-numbers.invariant in
-    let steps = c.in-Some.ensures.steps in (
-      search rules,
-      tt,
-      steps.0 ∙ before.2,
-      made_turn before.3 _ steps.1.0 (steps.1.1 ∙ before.2) c.from-call.ensures c.make_call.ensures.store c.make_call.ensures.steps c.make_call.auto.steps,
-    )
+pub loop-call-preserved : goal.loop-call-preserved
+loop-call-preserved c =
+    let next = drop-cons c.args.calls.now c.loop-call.call-index _ c.loop-call-test.true in
+    rw (add-one c.loop-call.call-index) (leads_turn c.loop-call.invariant _ (ap (calls_in _) next) c.make_call.ensures.store c.make_call.ensures.steps c.make_call.auto.steps)
 
 pub returns : goal.returns
 returns c =
-    let before = c.loop-numbers.invariant in
-    let few = rw before.2 at c.in-None.ensures.steps.1.0 in
-    record { store = made_store before.3 few; steps = made_steps before.3 few }
+    let none = ap (calls_in _) (drop_of_length-le c.args.calls.now (search rules)) in
+    record { store = leads_store c.loop-call.invariant none; steps = leads_steps c.loop-call.invariant none }

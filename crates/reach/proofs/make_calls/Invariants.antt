@@ -1,12 +1,10 @@
 -- `make_calls` makes the calls of its list in turn: those that are left lead to where all lead from the start.
-use Rattle.std.proofs.Common.{◌≡◌}
-use Rattle.std.specs.Slice.Iter.{chunks_exact_rest, chunks_exact_size}
-use Rattle.reach.proofs.Calling.{Made}
+use Rattle.std.specs.Prelude.{◌/◌, length, drop}
+use Rattle.reach.specs.Reach.{calls_in}
+use Rattle.reach.proofs.Calling.{Leads}
 use Rattle.reach.proofs.make_calls.Given as goal
 
-abbrev pub invariant-loop-numbers : goal.invariant-loop-numbers
-invariant-loop-numbers l =
-    goal.iterator-loop-numbers.can_next l.numbers-iterator
-    × goal.iterator-loop-numbers.is_finite l.numbers-iterator
-    × (chunks_exact_size l.numbers-iterator ≡ 3)
-    × Made l.fn.calls (chunks_exact_rest l.numbers-iterator) l.initial.st l.initial.steps l.st l.steps
+abbrev pub invariant-loop-call : goal.invariant-loop-call
+invariant-loop-call l =
+    let room = length l.initial.steps / 6 in
+    Leads (calls_in room l.calls) (calls_in room (drop l.call-index l.calls)) l.initial.st l.initial.steps l.st l.steps
