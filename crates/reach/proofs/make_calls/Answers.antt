@@ -4,7 +4,6 @@ use Rattle.std.proofs.Math.ListN.{drop_of_length-le}
 use Rattle.std.proofs.Math.Seq.{drop-cons}
 use Rattle.reach.specs.Reach.{calls_in}
 use Rattle.reach.proofs.Calling.{leads_turn, leads_store, leads_steps}
-use borrow.Author.Rules.{rules}
 use Rattle.reach.proofs.make_calls.Goals as goal
 
 pub loop-call-preserved : goal.loop-call-preserved
